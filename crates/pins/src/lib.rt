@@ -1,4 +1,6 @@
 // The core's ports: what the two public calls answer, and the words of one clock.
+pub mod ports;
+
 ghost use mathlib.Core.Path.{_≡_};
 ghost use Rattle.pins.specs.Cases.{Worked};
 
