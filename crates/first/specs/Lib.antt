@@ -4,3 +4,4 @@ pub mod StoreRules
 pub mod LsuRules
 pub mod WorkRules
 pub mod Step
+pub mod Layout

@@ -3,4 +3,5 @@ pub mod state;
 mod fetch;
 mod lsu;
 mod stores;
+mod words;
 mod work;

@@ -58,7 +58,7 @@ impl Core {
         }
     }
 
-    fn load(&self, rd: Reg, address: u32) -> Action
+    fn decide_load(&self, rd: Reg, address: u32) -> Action
         ensures { λ r. ⌜ r ≡ load-action (now (self .entry)) rd address (now (self .entry) .lsu .load) ⌝ }
     {
         match self.lsu.load {
@@ -76,7 +76,7 @@ impl Core {
         match outcome {
             Outcome::Write { rd, value, next } => Action::Write { rd, value, next },
             Outcome::Jump { next } => Action::Jump { next },
-            Outcome::Load { rd, address } => self.load(rd, address),
+            Outcome::Load { rd, address } => self.decide_load(rd, address),
             Outcome::Store { address, value } => {
                 if self.lsu.stores.count < 8 { Action::Push(Store { address, value }) } else { Action::Wait }
             }
