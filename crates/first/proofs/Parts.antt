@@ -17,9 +17,9 @@ length-next p ys a k b h l e = rw length-append (omega arith)
 
 -- the six parts, by what they are
 pub parts-are :
-  (w a b c d e f A B C D E F : List ℕ) → a ≡ A → b ≡ B → c ≡ C → d ≡ D → e ≡ E → f ≡ F
-  → length a ≡ 4 → length b ≡ 6 → length c ≡ 3 → length d ≡ 5 → length e ≡ 18
-  → putMid 36 32 (putMid 18 18 (putMid 13 5 (putMid 10 3 (putMid 4 6 (a ++ postOf 0 4 w) b) c) d) e) f ≡ (A ++ (B ++ (C ++ (D ++ (E ++ F))))) ++ drop 68 w
+    (w a b c d e f A B C D E F : List ℕ) → a ≡ A → b ≡ B → c ≡ C → d ≡ D → e ≡ E → f ≡ F
+    → length a ≡ 4 → length b ≡ 6 → length c ≡ 3 → length d ≡ 5 → length e ≡ 18
+    → putMid 36 32 (putMid 18 18 (putMid 13 5 (putMid 10 3 (putMid 4 6 (a ++ postOf 0 4 w) b) c) d) e) f ≡ (A ++ (B ++ (C ++ (D ++ (E ++ F))))) ++ drop 68 w
 parts-are w a b c d e f A B C D E F ea eb ec ed ee ef la lb lc ld le =
     let l1 : length (a ++ b) ≡ 10 = length-next a b 4 6 10 la lb refl in
     let l2 : length ((a ++ b) ++ c) ≡ 13 = length-next (a ++ b) c 10 3 13 l1 lc refl in

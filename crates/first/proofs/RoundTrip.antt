@@ -62,6 +62,7 @@ stores-back b h =
 stores-length : (b : StoreBuffer) → length (stores-words b) ≡ 18
 unfolding stores-words
 stores-length b = refl
+
 load-length : (d : Load) → length (load-words d) ≡ 3
 load-length Idle = refl
 load-length (Waiting a) = refl
@@ -72,9 +73,9 @@ at-part : (p x q w : List ℕ) (a k : ℕ) → w ≡ p ++ (x ++ q) → length p 
 at-part p x q w a k e h l = rw e (rw (drop-at p (x ++ q) a h) (take-at x q k l))
 
 core-same :
-  (k : Core) {g : List ℕ} {f : Fetch} {b : StoreBuffer} {q : OpenRequests} {d : Load} {h : Option Stop}
-  → g ≡ k .regs .values → f ≡ k .fetch → b ≡ k .lsu .stores → q ≡ k .lsu .requests → d ≡ k .lsu .load → h ≡ k .stopped
-  → _≡_ {A = Core} (record { regs = record { values = g }; pc = k .pc; number = record { 0 = k .number .0 }; fetch = f; lsu = record { stores = b; requests = q; load = d }; stopped = h }) k
+    (k : Core) {g : List ℕ} {f : Fetch} {b : StoreBuffer} {q : OpenRequests} {d : Load} {h : Option Stop}
+    → g ≡ k .regs .values → f ≡ k .fetch → b ≡ k .lsu .stores → q ≡ k .lsu .requests → d ≡ k .lsu .load → h ≡ k .stopped
+    → _≡_ {A = Core} (record { regs = record { values = g }; pc = k .pc; number = record { 0 = k .number .0 }; fetch = f; lsu = record { stores = b; requests = q; load = d }; stopped = h }) k
 core-same k eg ef eb eq ed eh =
     λ i. record { regs = record { values = eg i }; pc = k .pc; number = record { 0 = k .number .0 }; fetch = ef i; lsu = record { stores = eb i; requests = eq i; load = ed i }; stopped = eh i }
 

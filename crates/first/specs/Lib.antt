@@ -5,3 +5,4 @@ pub mod LsuRules
 pub mod WorkRules
 pub mod Step
 pub mod Layout
+pub mod Model

@@ -37,46 +37,58 @@ core-start a = record { regs = no-regs; pc = a; number = record { 0 = 0 }; fetch
 
 abbrev pub no-stores : Core → Bool
 no-stores k = eqb (k .lsu .stores .count) 0
+
 -- a device is read only when no store waits; data is read unless a waiting store has the word
 abbrev pub ask-device : Core → ℕ → Action
 ask-device k a = cond (lsu-room (k .lsu) && no-stores k) (Ask a) Wait
+
 abbrev pub forward-or-ask : Core → Reg → ℕ → Option ℕ → Action
 forward-or-ask k rd a None = cond (lsu-room (k .lsu)) (Ask a) Wait
 forward-or-ask k rd a (Some x) = Write rd x (add (k .pc) 4)
+
 abbrev pub load-action : Core → Reg → ℕ → Load → Action
 load-action k rd a Idle = cond (device a) (ask-device k a) (forward-or-ask k rd a (forwarded (k .lsu .stores) a))
 load-action k rd a (Waiting b) = Wait
 load-action k rd a (Answered b x) = Write rd x (add (k .pc) 4)
+
 abbrev pub outcome-action : Core → Outcome → Action
 outcome-action k (Writes rd x n) = Write rd x n
 outcome-action k (Jumps n) = Jump n
 outcome-action k (Loads rd a) = load-action k rd a (k .lsu .load)
 outcome-action k (Stores a x) = cond (ltb (k .lsu .stores .count) 8) (Push (record { address = a; value = x })) Wait
 outcome-action k (Halts h) = cond (no-stores k) (Halt h) Wait
+
 abbrev pub word-action : Core → Option ℕ → Action
 word-action k None = Wait
 word-action k (Some w) = outcome-action k (work (k .regs .values) (k .pc) w)
+
 abbrev pub action-unless : Core → Bool → Action
 action-unless k true = Wait
 action-unless k false = word-action k (fetch-head (k .fetch))
+
 abbrev pub halted : Core → Bool
 halted k = is-some (k .stopped)
   where
     is-some : {A : Type 0} → Option A → Bool
     is-some None = false
     is-some (Some x) = true
+
 abbrev pub action : Core → Action
 action k = action-unless k (halted k)
 
 -- the instruction at work is done: registers, store buffer and next address after it
 abbrev pub with-stores : Lsu → StoreBuffer → Lsu
 with-stores d b = record { stores = b; requests = d .requests; load = d .load }
+
 abbrev pub no-load : Lsu → Lsu
 no-load d = record { stores = d .stores; requests = d .requests; load = Idle }
+
 abbrev pub retire : Core → Regs → Lsu → ℕ → Core
 retire k gs d a = record { regs = gs; pc = a; number = record { 0 = add (k .number .0) 1 }; fetch = fetch-goto (k .fetch) (k .pc) a; lsu = no-load d; stopped = k .stopped }
+
 abbrev pub write-reg : Regs → Reg → ℕ → Regs
 write-reg gs rd x = record { values = put (gs .values) (rd .number) x }
+
 abbrev pub act : Core → Action → Core
 act k Wait = k
 act k (Halt h) = record { regs = k .regs; pc = k .pc; number = k .number; fetch = k .fetch; lsu = k .lsu; stopped = Some h }
@@ -84,11 +96,14 @@ act k (Write rd x a) = retire k (write-reg (k .regs) rd x) (k .lsu) a
 act k (Jump a) = retire k (k .regs) (k .lsu) a
 act k (Push s) = retire k (k .regs) (with-stores (k .lsu) (buffer-push (k .lsu .stores) s)) (add (k .pc) 4)
 act k (Ask a) = record { regs = k .regs; pc = k .pc; number = k .number; fetch = k .fetch; lsu = lsu-ask (k .lsu) a; stopped = k .stopped }
+
 -- and what it shows
 abbrev pub nothing : Effect
 nothing = record { done = done-none; request = None }
+
 abbrev pub retired : ℕ → ℕ → ℕ → Effect
 retired pc r x = record { done = done-one (record { pc = pc; reg = r; value = x }); request = None }
+
 abbrev pub effect : Core → Action → Effect
 effect k Wait = nothing
 effect k (Halt h) = nothing

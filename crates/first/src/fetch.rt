@@ -7,7 +7,13 @@ impl Fetch {
     pub fn start(address: u32) -> Fetch
         ensures { λ r. ⌜ r ≡ fetch-start address ⌝ }
     {
-        Fetch { count: 0, words: [0; 2], coming: 0, stale: 0, next: address }
+        Fetch {
+            count: 0,
+            words: [0; 2],
+            coming: 0,
+            stale: 0,
+            next: address,
+        }
     }
 
     // A word of code that comes: a stale one is dropped, one that nobody wants is ignored.
@@ -30,7 +36,11 @@ impl Fetch {
     pub fn head(&self) -> Option<u32>
         ensures { λ r. ⌜ r ≡ fetch-head (now (self .entry)) ⌝ }
     {
-        if self.count == 0 { None } else { Some(self.words[0]) }
+        if self.count == 0 {
+            None
+        } else {
+            Some(self.words[0])
+        }
     }
 
     fn pop(&mut self)

@@ -14,7 +14,10 @@ impl OpenRequests {
     pub fn start() -> OpenRequests
         ensures { λ r. ⌜ r ≡ open-start ⌝ }
     {
-        OpenRequests { count: 0, at: [Open::Acknowledgment; 4] }
+        OpenRequests {
+            count: 0,
+            at: [Open::Acknowledgment; 4],
+        }
     }
 
     fn push(&mut self, kind: Open)
@@ -41,7 +44,10 @@ impl Load {
         ensures { λ r. ⌜ r ≡ load-answered self word ⌝ }
     {
         match self {
-            Load::Waiting { address } => Load::Answered { address, value: word },
+            Load::Waiting { address } => Load::Answered {
+                address,
+                value: word,
+            },
             other => other,
         }
     }
@@ -51,7 +57,10 @@ impl Store {
     fn request(self) -> Request
         ensures { λ r. ⌜ r ≡ write-of self ⌝ }
     {
-        Request::Write { address: self.address, value: self.value }
+        Request::Write {
+            address: self.address,
+            value: self.value,
+        }
     }
 }
 
@@ -59,7 +68,11 @@ impl Lsu {
     pub fn start() -> Lsu
         ensures { λ r. ⌜ r ≡ lsu-start ⌝ }
     {
-        Lsu { stores: StoreBuffer::start(), requests: OpenRequests::start(), load: Load::Idle }
+        Lsu {
+            stores: StoreBuffer::start(),
+            requests: OpenRequests::start(),
+            load: Load::Idle,
+        }
     }
 
     // An answer that comes; one that nobody waits for is ignored.

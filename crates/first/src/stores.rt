@@ -9,7 +9,14 @@ impl StoreBuffer {
     pub fn start() -> StoreBuffer
         ensures { λ r. ⌜ r ≡ buffer-start ⌝ }
     {
-        StoreBuffer { begin: 0, count: 0, at: [Store { address: 0, value: 0 }; 8] }
+        StoreBuffer {
+            begin: 0,
+            count: 0,
+            at: [Store {
+                address: 0,
+                value: 0,
+            }; 8],
+        }
     }
 
     // Where the n-th oldest stands.

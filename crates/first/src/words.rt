@@ -52,7 +52,13 @@ impl Fetch {
         requires { ⌜ length (now w) ≡ 6 ⌝ }
         ensures { λ r. ⌜ r ≡ fetch-of (now (w .entry)) ⌝ }
     {
-        Fetch { count: w[0], words: [w[1], w[2]], coming: w[3], stale: w[4], next: w[5] }
+        Fetch {
+            count: w[0],
+            words: [w[1], w[2]],
+            coming: w[3],
+            stale: w[4],
+            next: w[5],
+        }
     }
 
     fn words(&self) -> [u32; 6]
@@ -72,7 +78,10 @@ impl Load {
         match w[0] {
             0 => Load::Idle,
             1 => Load::Waiting { address: w[1] },
-            _ => Load::Answered { address: w[1], value: w[2] },
+            _ => Load::Answered {
+                address: w[1],
+                value: w[2],
+            },
         }
     }
 
@@ -91,7 +100,11 @@ impl Open {
     fn from_tag(tag: u32) -> Open
         ensures { λ r. ⌜ r ≡ open-of tag ⌝ }
     {
-        if tag == 0 { Open::Acknowledgment } else { Open::Load }
+        if tag == 0 {
+            Open::Acknowledgment
+        } else {
+            Open::Load
+        }
     }
 
     fn tag(self) -> u32
@@ -109,7 +122,15 @@ impl OpenRequests {
         requires { ⌜ length (now w) ≡ 5 ⌝ }
         ensures { λ r. ⌜ r ≡ requests-of (now (w .entry)) ⌝ }
     {
-        OpenRequests { count: w[0], at: [Open::from_tag(w[1]), Open::from_tag(w[2]), Open::from_tag(w[3]), Open::from_tag(w[4])] }
+        OpenRequests {
+            count: w[0],
+            at: [
+                Open::from_tag(w[1]),
+                Open::from_tag(w[2]),
+                Open::from_tag(w[3]),
+                Open::from_tag(w[4]),
+            ],
+        }
     }
 
     fn words(&self) -> [u32; 5]
@@ -125,7 +146,10 @@ fn store_at(w: &[u32], i: usize) -> Store
     requires { ⌜ i + 1 < length (now w) ⌝ }
     ensures { λ r. ⌜ r ≡ store-of (now (w .entry)) i ⌝ }
 {
-    Store { address: w[i], value: w[i + 1] }
+    Store {
+        address: w[i],
+        value: w[i + 1],
+    }
 }
 
 impl StoreBuffer {
@@ -136,7 +160,16 @@ impl StoreBuffer {
         StoreBuffer {
             begin: w[0],
             count: w[1],
-            at: [store_at(w, 2), store_at(w, 4), store_at(w, 6), store_at(w, 8), store_at(w, 10), store_at(w, 12), store_at(w, 14), store_at(w, 16)],
+            at: [
+                store_at(w, 2),
+                store_at(w, 4),
+                store_at(w, 6),
+                store_at(w, 8),
+                store_at(w, 10),
+                store_at(w, 12),
+                store_at(w, 14),
+                store_at(w, 16),
+            ],
         }
     }
 
@@ -146,7 +179,24 @@ impl StoreBuffer {
     {
         let [a, b, c, d, e, f, g, h] = self.at;
         [
-            self.begin, self.count, a.address, a.value, b.address, b.value, c.address, c.value, d.address, d.value, e.address, e.value, f.address, f.value, g.address, g.value, h.address, h.value,
+            self.begin,
+            self.count,
+            a.address,
+            a.value,
+            b.address,
+            b.value,
+            c.address,
+            c.value,
+            d.address,
+            d.value,
+            e.address,
+            e.value,
+            f.address,
+            f.value,
+            g.address,
+            g.value,
+            h.address,
+            h.value,
         ]
     }
 }
@@ -158,8 +208,19 @@ impl Core {
     {
         let mut values = [0u32; 32];
         values.copy_from_slice(&w[36..68]);
-        let lsu = Lsu { stores: StoreBuffer::load(&w[18..36]), requests: OpenRequests::load(&w[13..18]), load: Load::load(&w[10..13]) };
-        Core { regs: Regs { values }, pc: w[1], number: Number(w[2]), fetch: Fetch::load(&w[4..10]), lsu, stopped: stop_from(w[3]) }
+        let lsu = Lsu {
+            stores: StoreBuffer::load(&w[18..36]),
+            requests: OpenRequests::load(&w[13..18]),
+            load: Load::load(&w[10..13]),
+        };
+        Core {
+            regs: Regs { values },
+            pc: w[1],
+            number: Number(w[2]),
+            fetch: Fetch::load(&w[4..10]),
+            lsu,
+            stopped: stop_from(w[3]),
+        }
     }
 
     // The core that the words are, or none.
@@ -169,7 +230,11 @@ impl Core {
         if w.len() < LENT {
             return None;
         }
-        if w[0] == MARK { Some(Core::read(w)) } else { None }
+        if w[0] == MARK {
+            Some(Core::read(w))
+        } else {
+            None
+        }
     }
 
     // Writes the core into the first of the words.

@@ -30,7 +30,14 @@ impl Core {
     pub fn start(address: u32) -> Core
         ensures { λ r. ⌜ r ≡ core-start address ⌝ }
     {
-        Core { regs: Regs::new(), pc: address, number: Number(0), fetch: Fetch::start(address), lsu: Lsu::start(), stopped: None }
+        Core {
+            regs: Regs::new(),
+            pc: address,
+            number: Number(0),
+            fetch: Fetch::start(address),
+            lsu: Lsu::start(),
+            stopped: None,
+        }
     }
 
     fn no_stores(&self) -> bool
@@ -43,7 +50,11 @@ impl Core {
     fn ask_device(&self, address: u32) -> Action
         ensures { λ r. ⌜ r ≡ ask-device (now (self .entry)) address ⌝ }
     {
-        if self.lsu.room() && self.no_stores() { Action::Ask { address } } else { Action::Wait }
+        if self.lsu.room() && self.no_stores() {
+            Action::Ask { address }
+        } else {
+            Action::Wait
+        }
     }
 
     // A word of data comes from the newest waiting store to it, or is requested.
@@ -51,9 +62,17 @@ impl Core {
         ensures { λ r. ⌜ r ≡ forward-or-ask (now (self .entry)) rd address (forwarded (now (self .entry) .lsu .stores) address) ⌝ }
     {
         match self.lsu.stores.forward(address) {
-            Some(value) => Action::Write { rd, value, next: self.pc.wrapping_add(4) },
+            Some(value) => Action::Write {
+                rd,
+                value,
+                next: self.pc.wrapping_add(4),
+            },
             None => {
-                if self.lsu.room() { Action::Ask { address } } else { Action::Wait }
+                if self.lsu.room() {
+                    Action::Ask { address }
+                } else {
+                    Action::Wait
+                }
             }
         }
     }
@@ -63,10 +82,18 @@ impl Core {
     {
         match self.lsu.load {
             Load::Idle => {
-                if address >= DEVICES { self.ask_device(address) } else { self.ask_data(rd, address) }
+                if address >= DEVICES {
+                    self.ask_device(address)
+                } else {
+                    self.ask_data(rd, address)
+                }
             }
             Load::Waiting { .. } => Action::Wait,
-            Load::Answered { value, .. } => Action::Write { rd, value, next: self.pc.wrapping_add(4) },
+            Load::Answered { value, .. } => Action::Write {
+                rd,
+                value,
+                next: self.pc.wrapping_add(4),
+            },
         }
     }
 
@@ -78,10 +105,18 @@ impl Core {
             Outcome::Jump { next } => Action::Jump { next },
             Outcome::Load { rd, address } => self.decide_load(rd, address),
             Outcome::Store { address, value } => {
-                if self.lsu.stores.count < 8 { Action::Push(Store { address, value }) } else { Action::Wait }
+                if self.lsu.stores.count < 8 {
+                    Action::Push(Store { address, value })
+                } else {
+                    Action::Wait
+                }
             }
             Outcome::Halt(stop) => {
-                if self.no_stores() { Action::Halt(stop) } else { Action::Wait }
+                if self.no_stores() {
+                    Action::Halt(stop)
+                } else {
+                    Action::Wait
+                }
             }
         }
     }
@@ -104,13 +139,19 @@ impl Effect {
     fn nothing() -> Effect
         ensures { λ r. ⌜ r ≡ nothing ⌝ }
     {
-        Effect { done: Done::none(), request: None }
+        Effect {
+            done: Done::none(),
+            request: None,
+        }
     }
 
     fn retired(pc: u32, reg: u32, value: u32) -> Effect
         ensures { λ r. ⌜ r ≡ retired pc reg value ⌝ }
     {
-        Effect { done: Done::one(Retired { pc, reg, value }), request: None }
+        Effect {
+            done: Done::one(Retired { pc, reg, value }),
+            request: None,
+        }
     }
 }
 
@@ -153,7 +194,10 @@ impl Core {
             }
             Action::Ask { address } => {
                 self.lsu.ask(address);
-                Effect { done: Done::none(), request: Some(Request::Read { address }) }
+                Effect {
+                    done: Done::none(),
+                    request: Some(Request::Read { address }),
+                }
             }
         }
     }
@@ -169,6 +213,11 @@ impl Core {
         self.fetch.take(inputs.code);
         let request = self.lsu.drain(effect.request);
         let want = self.fetch.want();
-        Outputs { want, request, stopped: self.stopped, done: effect.done }
+        Outputs {
+            want,
+            request,
+            stopped: self.stopped,
+            done: effect.done,
+        }
     }
 }

@@ -9,6 +9,6 @@ returns c =
     let k = c .args .self .now in
     record {
       is = parts-are (c .args .w .now) _ _ _ _ _ _ (head-words k) (fetch-words (k .fetch)) (load-words (k .lsu .load)) (requests-words (k .lsu .requests)) (stores-words (k .lsu .stores)) (k .regs .values)
-        (search needs) (search needs) (search needs) (search needs) (search needs) (search needs) (search needs) (search needs) (search needs) (search needs) (search needs);
-      shaped = search needs
+          (search needs) (search needs) (search needs) (search needs) (search needs) (search needs) (search needs) (search needs) (search needs) (search needs) (search needs);
+      shaped = search needs;
     }
