@@ -66,12 +66,12 @@ abbrev pub action-unless : Core → Bool → Action
 action-unless k true = Wait
 action-unless k false = word-action k (fetch-head (k .fetch))
 
+abbrev pub is-some : {A : Type 0} → Option A → Bool
+is-some None = false
+is-some (Some x) = true
+
 abbrev pub halted : Core → Bool
 halted k = is-some (k .stopped)
-  where
-    is-some : {A : Type 0} → Option A → Bool
-    is-some None = false
-    is-some (Some x) = true
 
 abbrev pub action : Core → Action
 action k = action-unless k (halted k)
