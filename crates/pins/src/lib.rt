@@ -2,6 +2,8 @@
 ghost use mathlib.Core.Path.{_≡_};
 ghost use Rattle.pins.specs.Cases.{Worked};
 
+pub mod laws;
+
 // A core was started, or its words are too few.
 #[derive(Clone, Copy)]
 pub enum Started {
