@@ -34,3 +34,11 @@ history-laws = record {
   evs-clock = λ h x. evs-append h (x ∷ []) ∙ ap (λ l. evs h ++ l) (append-nil (ev-of (x .out1 .data1)));
   stopped-clock = stopped-clock;
 }
+
+-- an induction over histories from their last clock
+pub by-clocks : (P : Hist → Type 0) → P [] → ((h : Hist) (x : Io) → P h → P (h ++ (x ∷ []))) → (h : Hist) → P h
+by-clocks P start clock h = from [] h start
+  where
+    from : (b g : Hist) → P b → P (b ++ g)
+    from b [] p = rw append-nil p
+    from b (x ∷ g) p = rw (← append-assoc b (x ∷ []) g) (from (b ++ (x ∷ [])) g (clock b x p))

@@ -1,6 +1,9 @@
 pub mod Examples
 pub mod Histories
+pub mod Queues
 pub mod ViewClock
+pub mod Settling
+pub mod Waiting
 pub mod Reaching
 pub mod Invariants
 pub mod Calls

@@ -1,78 +1,35 @@
 -- A clock more in the history is its answers taken from the view and what it shows added.
-use mathlib.Core.Path.{_≡_, refl, sym, ap, _∙_}
-use mathlib.Core.List.{List, [], _∷_, _++_, append-nil, append-assoc}
-use mathlib.Core.Option.{Option, some, none}
-use Prim.Native.Nat.{ℕ, suc}
+use mathlib.Core.Path.{_≡_, refl, sym, ap, subst, _∙_}
+use mathlib.Core.List.{List, [], _∷_, _++_, map, map-map, append-nil, append-assoc}
+use mathlib.Core.Option.{Option, some, none, Option·map, map-map as option-map-map}
+use Prim.Native.Nat.{ℕ, _+_}
 use native.Mathlib.Omega.{arith}
-use lib.ListN.{length}
+use lib.ListN.{length, length-append, length-map}
 use Rattle.isa.specs.Manual.{Code, Mem, Ret, Ev}
 use Rattle.pins.specs.Ports.{In, Req, reads, writes1}
-use Rattle.pins.specs.Outside.{Io, Hist, Want, Wish, O, older, older1, code-by, data-by, wanted, wished, after, outside, ev-of, Code-right, Read-right, Data-right, Right-in}
+use Rattle.pins.specs.Outside.{Io, Hist, Want, Wish, O, after, outside, ev-of, Code-right, Read-right, Data-right, Right-in}
 use Rattle.pins.specs.Says.{Right}
-use Rattle.pins.specs.View.{addrs, reqs, view, pop, push, mem-then, told-then, evs-then, rets-then, take-in, add-out, View-laws}
+use Rattle.pins.specs.View.{View, addrs, reqs, view, pop, push, evs-then, rets-then, take-in, add-out, ones, View-laws}
 use Rattle.pins.specs.View.{Code-allowed, Read-allowed, Data-allowed, Allowed, Right-view}
-use Rattle.pins.proofs.Histories.{history-laws}
+use Rattle.pins.proofs.Queues.{map-pop, map-push, option-same, waited, waited1, new, new1, clocked-to}
+use Rattle.pins.proofs.Histories.{history-laws, by-clocks}
 
--- the queue of code
-addrs-older : (ws : List Want) → addrs (older ws) ≡ addrs ws
-addrs-older [] = refl
-addrs-older (w ∷ ws) = ap (λ l. w .addr ∷ l) (addrs-older ws)
+-- the queues without ages
+codes-clock : (o : O) (x : Io) → addrs (after o x .codes) ≡ push (x .out1 .code) (pop (x .in1 .code) (addrs (o .codes)))
+codes-clock o x =
+    let q = pop (x .in1 .code) (o .codes) in
+    let y = x .out1 .code in
+    ap addrs (clocked-to o x .codes) ∙ map-push (λ (w : Want). w .addr) (Option·map new y) (map waited q)
+    ∙ ap (λ z. push z (addrs (map waited q))) (option-map-map (λ (w : Want). w .addr) new y ∙ option-same y)
+    ∙ ap (push y) (map-map (λ (w : Want). w .addr) waited q ∙ map-pop (λ (w : Want). w .addr) (x .in1 .code) (o .codes))
 
-addrs-push : (ws : List Want) (w : Want) → addrs (ws ++ (w ∷ [])) ≡ addrs ws ++ (w .addr ∷ [])
-addrs-push [] w = refl
-addrs-push (x ∷ ws) w = ap (λ l. x .addr ∷ l) (addrs-push ws w)
-
-addrs-wanted : (a : Option ℕ) (ws : List Want) → addrs (wanted a (older ws)) ≡ push a (addrs ws)
-addrs-wanted none ws = addrs-older ws
-addrs-wanted (some a) ws = addrs-push (older ws) (record { addr = a; age = 0 }) ∙ ap (λ l. l ++ (a ∷ [])) (addrs-older ws)
-
-addrs-pop : (x : Option ℕ) (ws : List Want) → addrs (code-by x ws) ≡ pop x (addrs ws)
-addrs-pop none ws = refl
-addrs-pop (some x) [] = refl
-addrs-pop (some x) (w ∷ ws) = refl
-
-pub addrs-length : (ws : List Want) → length (addrs ws) ≡ length ws
-addrs-length [] = refl
-addrs-length (w ∷ ws) = ap suc (addrs-length ws)
-
--- the queue of requests
-reqs-older : (ws : List Wish) → reqs (older1 ws) ≡ reqs ws
-reqs-older [] = refl
-reqs-older (w ∷ ws) = ap (λ l. w .req ∷ l) (reqs-older ws)
-
-reqs-push : (ws : List Wish) (w : Wish) → reqs (ws ++ (w ∷ [])) ≡ reqs ws ++ (w .req ∷ [])
-reqs-push [] w = refl
-reqs-push (x ∷ ws) w = ap (λ l. x .req ∷ l) (reqs-push ws w)
-
-reqs-wished : (r : Option Req) (ws : List Wish) → reqs (wished r (older1 ws)) ≡ push r (reqs ws)
-reqs-wished none ws = reqs-older ws
-reqs-wished (some r) ws = reqs-push (older1 ws) (record { req = r; age = 0 }) ∙ ap (λ l. l ++ (r ∷ [])) (reqs-older ws)
-
-pub reqs-length : (ws : List Wish) → length (reqs ws) ≡ length ws
-reqs-length [] = refl
-reqs-length (w ∷ ws) = ap suc (reqs-length ws)
-
--- the parts of the outside after an answer to a request
-module _ (o : O) where
-  data-codes : (x : Option ℕ) (ws : List Wish) → data-by x ws o .codes ≡ o .codes
-  data-codes none ws = refl
-  data-codes (some x) [] = refl
-  data-codes (some x) (w ∷ ws) = refl
-
-  data-datas : (x : Option ℕ) (ws : List Wish) → o .datas ≡ ws → reqs (data-by x ws o .datas) ≡ pop x (reqs ws)
-  data-datas none ws e = ap reqs e
-  data-datas (some x) [] e = ap reqs e
-  data-datas (some x) (w ∷ ws) e = refl
-
-  data-mem : (x : Option ℕ) (ws : List Wish) → data-by x ws o .mem ≡ mem-then x (reqs ws) (o .mem)
-  data-mem none ws = refl
-  data-mem (some x) [] = refl
-  data-mem (some x) (w ∷ ws) = refl
-
-  data-told : (x : Option ℕ) (ws : List Wish) → data-by x ws o .told ≡ told-then x (reqs ws) (o .told)
-  data-told none ws = refl
-  data-told (some x) [] = refl
-  data-told (some x) (w ∷ ws) = refl
+datas-clock : (o : O) (x : Io) → reqs (after o x .datas) ≡ push (x .out1 .data1) (pop (x .in1 .data1) (reqs (o .datas)))
+datas-clock o x =
+    let q = pop (x .in1 .data1) (o .datas) in
+    let y = x .out1 .data1 in
+    ap reqs (clocked-to o x .datas) ∙ map-push (λ (w : Wish). w .req) (Option·map new1 y) (map waited1 q)
+    ∙ ap (λ z. push z (reqs (map waited1 q))) (option-map-map (λ (w : Wish). w .req) new1 y ∙ option-same y)
+    ∙ ap (push y) (map-map (λ (w : Wish). w .req) waited1 q ∙ map-pop (λ (w : Wish). w .req) (x .in1 .data1) (o .datas))
 
 evs-more : (r : Option Req) (es : List Ev) → es ++ ev-of r ≡ evs-then r es
 evs-more none es = append-nil es
@@ -82,40 +39,19 @@ rets-more : (ts rs : List Ret) → rs ++ ts ≡ rets-then ts rs
 rets-more [] rs = append-nil rs
 rets-more (t ∷ ts) rs = sym (append-assoc rs (t ∷ []) ts) ∙ rets-more ts (rs ++ (t ∷ []))
 
--- the outside's four parts after a clock, by those before it
-pub record Clocked-to (o : O) (x : Io) : Type 0 where
-  pub codes : addrs (after o x .codes) ≡ push (x .out1 .code) (pop (x .in1 .code) (addrs (o .codes)))
-  pub datas : reqs (after o x .datas) ≡ push (x .out1 .data1) (pop (x .in1 .data1) (reqs (o .datas)))
-  pub mem : after o x .mem ≡ mem-then (x .in1 .data1) (reqs (o .datas)) (o .mem)
-  pub told : after o x .told ≡ told-then (x .in1 .data1) (reqs (o .datas)) (o .told)
-
-pub clocked-to : (o : O) (x : Io) → Clocked-to o x
-clocked-to o x = record {
-  codes = addrs-wanted (x .out1 .code) _ ∙ ap (push (x .out1 .code)) (ap addrs (data-codes _ (x .in1 .data1) (o .datas)) ∙ addrs-pop (x .in1 .code) (o .codes));
-  datas = reqs-wished (x .out1 .data1) _ ∙ ap (push (x .out1 .data1)) (data-datas _ (x .in1 .data1) (o .datas) refl);
-  mem = data-mem _ (x .in1 .data1) (o .datas);
-  told = data-told _ (x .in1 .data1) (o .datas);
-}
-
 one-clock : (m : Mem) (h : Hist) (x : Io) → view m (h ++ (x ∷ [])) ≡ add-out (x .out1) (take-in (x .in1) (view m h))
 one-clock m h x = λ i. record {
-  codes = (ap (λ (o : O). addrs (o .codes)) e ∙ p .codes) i;
-  datas = (ap (λ (o : O). reqs (o .datas)) e ∙ p .datas) i;
-  mem = (ap (λ (o : O). o .mem) e ∙ p .mem) i;
-  told = (ap (λ (o : O). o .told) e ∙ p .told) i;
+  codes = (ap (λ (o : O). addrs (o .codes)) e ∙ codes-clock (outside m h) x) i;
+  datas = (ap (λ (o : O). reqs (o .datas)) e ∙ datas-clock (outside m h) x) i;
+  mem = (ap (λ (o : O). o .mem) e ∙ clocked-to (outside m h) x .mem) i;
+  told = (ap (λ (o : O). o .told) e ∙ clocked-to (outside m h) x .told) i;
   rets = (history-laws .rets-clock h x ∙ rets-more (x .out1 .rets) _) i;
   evs = (history-laws .evs-clock h x ∙ evs-more (x .out1 .data1) _) i;
   stopped = history-laws .stopped-clock h x i;
 }
   where
-    p : Clocked-to (outside m h) x
-    p = clocked-to (outside m h) x
-
     e : outside m (h ++ (x ∷ [])) ≡ after (outside m h) x
     e = history-laws .outside-clock m h x
-
-pub view-laws : View-laws
-view-laws = record { at-start = λ m. refl; one-clock = one-clock }
 
 -- an answer that is allowed after a history is allowed at its view
 code-allowed : (c : Code) (x : Option ℕ) (ws : List Want) → Code-right c x ws → Code-allowed c x (addrs ws)
@@ -132,19 +68,50 @@ data-allowed o none ws r = r
 data-allowed o (some x) [] r = r
 data-allowed o (some x) (w ∷ ws) r = (r .0, read-allowed o (w .req) x (r .1))
 
-pub allowed : {c : Code} {m : Mem} {h : Hist} {i : In} → Right-in c m h i → Allowed c (view m h) i
+allowed : {c : Code} {m : Mem} {h : Hist} {i : In} → Right-in c m h i → Allowed c (view m h) i
 allowed {c} {m} {h} {i} r = record {
   code = code-allowed c (i .code) (outside m h .codes) (r .code);
   data1 = data-allowed (outside m h) (i .data1) (outside m h .datas) (r .data1);
 }
 
 -- and a view that is right is that of a right history
-pub right-history : {c : Code} {m : Mem} {a : ℕ} {h : Hist} → Right-view c m a (view m h) → Right c m a h
+right-history : {c : Code} {m : Mem} {a : ℕ} {h : Hist} → Right-view c m a (view m h) → Right c m a h
 right-history {m = m} {h = h} r = record {
   done = r .done;
   asked = r .asked;
   behind = r .behind;
   stop = r .stop;
-  few-codes = let n = addrs-length (outside m h .codes) in let f = r .few-codes in omega arith;
-  few-datas = let n = reqs-length (outside m h .datas) in let f = r .few-datas in omega arith;
+  few-codes = let n = length-map (outside m h .codes) (λ (w : Want). w .addr) in let f = r .few-codes in omega arith;
+  few-datas = let n = length-map (outside m h .datas) (λ (w : Wish). w .req) in let f = r .few-datas in omega arith;
 }
+
+-- the numbers open
+codes-left : (c : Code) (x : Option ℕ) (q : List ℕ) → Code-allowed c x q → ones x + length (pop x q) ≡ length q
+codes-left c none q r = omega arith
+codes-left c (some x) [] r = absurd r
+codes-left c (some x) (a ∷ q) r = omega arith
+
+datas-left : (m : Mem) (x : Option ℕ) (q : List Req) → Data-allowed m x q → ones x + length (pop x q) ≡ length q
+datas-left m none q r = omega arith
+datas-left m (some x) [] r = absurd r
+datas-left m (some x) (a ∷ q) r = omega arith
+
+pushed : {A : Type 0} (y : Option A) (q : List A) → length (push y q) ≡ length q + ones y
+pushed none q = omega arith
+pushed (some y) q = length-append q (y ∷ [])
+
+pub view-laws : View-laws
+view-laws = record {
+  at-start = λ m. refl;
+  one-clock = one-clock;
+  allowed = λ r. allowed r;
+  right = λ r. right-history r;
+  codes-answered = λ {c} {v} {i} r. codes-left c (i .code) (v .codes) (r .code);
+  datas-answered = λ {c} {v} {i} r. datas-left (v .mem) (i .data1) (v .datas) (r .data1);
+  codes-asked = λ o v. pushed (o .code) (v .codes);
+  datas-asked = λ o v. pushed (o .data1) (v .datas);
+}
+
+-- what a clock keeps of a view holds after every history
+pub by-views : (m : Mem) (P : View → Type 0) → P (view m []) → ((v : View) (x : Io) → P v → P (add-out (x .out1) (take-in (x .in1) v))) → (h : Hist) → P (view m h)
+by-views m P start clock h = by-clocks (λ g. P (view m g)) start (λ g x p. subst P (sym (one-clock m g x)) (clock (view m g) x p)) h

@@ -5,4 +5,6 @@ pub mod Says
 pub mod Cases
 pub mod History
 pub mod View
+pub mod Settled
+pub mod Waits
 pub mod Reach

@@ -1,14 +1,14 @@
 -- What the outside and the ports stand at, in the middle of a clock too.
 use mathlib.Core.Path.{_≡_}
 use mathlib.Core.Bool.{false}
-use mathlib.Core.List.{List, [], _∷_, _++_}
+use mathlib.Core.List.{List, [], _∷_, _++_, map}
 use mathlib.Core.Option.{Option, some, none}
 use Prim.Native.Nat.{ℕ, suc, _+_, _/_, _≤_, _<_}
 use lib.ListN.{length}
 use Rattle.isa.specs.Manual.{Code, Mem, device, Ret, Ev, stops, Run, run}
 use Rattle.pins.specs.Ports.{In, Out, Req, reads, writes1}
-use Rattle.pins.specs.Outside.{Io, Hist, Want, Wish, outside, mem-by, told-by, word, rets, ev-of, evs, stopped}
-use Rattle.pins.specs.Says.{Front, first}
+use Rattle.pins.specs.Outside.{Io, Hist, Want, Wish, outside, mem-by, told-by, word, Right-in, rets, ev-of, evs, stopped}
+use Rattle.pins.specs.Says.{Front, first, Right}
 
 pub record View : Type 0 where
   -- addresses of code that are wanted, and requests, not answered yet, oldest first
@@ -25,12 +25,10 @@ pub record View : Type 0 where
 
 -- a history's view: the outside without its ages, and what the ports have shown
 abbrev pub addrs : List Want → List ℕ
-addrs [] = []
-addrs (w ∷ ws) = w .addr ∷ addrs ws
+addrs ws = map (λ w. w .addr) ws
 
 abbrev pub reqs : List Wish → List Req
-reqs [] = []
-reqs (w ∷ ws) = w .req ∷ reqs ws
+reqs ws = map (λ w. w .req) ws
 
 abbrev pub view : Mem → Hist → View
 view m h = record {
@@ -147,10 +145,6 @@ take-in i v = take-data (i .data1) (take-code (i .code) v)
 abbrev pub add-out : Out → View → View
 add-out o v = show-stop (o .stopped) (want-code (o .code) (ask-data (o .data1) (retire (o .rets) v)))
 
-pub record View-laws : Type 0 where
-  pub at-start : (m : Mem) → view m [] ≡ record { codes = []; datas = []; mem = m; told = []; rets = []; evs = []; stopped = none }
-  pub one-clock : (m : Mem) (h : Hist) (x : Io) → view m (h ++ (x ∷ [])) ≡ add-out (x .out1) (take-in (x .in1) (view m h))
-
 -- the answers that are allowed at a view
 abbrev pub Code-allowed : Code → Option ℕ → List ℕ → Type 0
 Code-allowed c none q = Unit {0}
@@ -170,6 +164,11 @@ pub record Allowed (c : Code) (v : View) (i : In) : Type 0 where
   pub code : Code-allowed c (i .code) (v .codes)
   pub data1 : Data-allowed (v .mem) (i .data1) (v .datas)
 
+-- how many
+abbrev pub ones : {A : Type 0} → Option A → ℕ
+ones none = 0
+ones (some x) = 1
+
 -- `Right`, said of a view
 abbrev pub run-at : Code → Mem → ℕ → View → Run
 run-at c m a v = run c (first a m (v .told)) (length (v .rets))
@@ -181,3 +180,15 @@ pub record Right-view (c : Code) (m : Mem) (a : ℕ) (v : View) : Type 0 where
   pub stop : (k : ℕ) → v .stopped ≡ some k → (k < 3) × (run c (first a m (v .told)) (suc (length (v .rets))) .is ≡ stops k) × (v .evs ≡ run-at c m a v .evs)
   pub few-codes : length (v .codes) ≤ 4
   pub few-datas : length (v .datas) ≤ 4
+
+pub record View-laws : Type 0 where
+  pub at-start : (m : Mem) → view m [] ≡ record { codes = []; datas = []; mem = m; told = []; rets = []; evs = []; stopped = none }
+  pub one-clock : (m : Mem) (h : Hist) (x : Io) → view m (h ++ (x ∷ [])) ≡ add-out (x .out1) (take-in (x .in1) (view m h))
+  -- what is allowed after a history is allowed at its view, and a view that is right is that of a right history
+  pub allowed : {c : Code} {m : Mem} {h : Hist} {i : In} → Right-in c m h i → Allowed c (view m h) i
+  pub right : {c : Code} {m : Mem} {a : ℕ} {h : Hist} → Right-view c m a (view m h) → Right c m a h
+  -- how many are open: an answer is one less, a request one more
+  pub codes-answered : {c : Code} {v : View} {i : In} → Allowed c v i → ones (i .code) + length (take-in i v .codes) ≡ length (v .codes)
+  pub datas-answered : {c : Code} {v : View} {i : In} → Allowed c v i → ones (i .data1) + length (take-in i v .datas) ≡ length (v .datas)
+  pub codes-asked : (o : Out) (v : View) → length (add-out o v .codes) ≡ length (v .codes) + ones (o .code)
+  pub datas-asked : (o : Out) (v : View) → length (add-out o v .datas) ≡ length (v .datas) + ones (o .data1)
