@@ -128,3 +128,7 @@ words-back k w s n =
 pub long : (w : List ℕ) (k : Core) → decode w ≡ Some k → 65536 ≤ length w
 unfolding decode
 long w k e = grind (arith, tells)
+
+-- a state written over words that were long enough
+pub written : (w w′ : List ℕ) (k k′ : Core) → 65536 ≤ length w → k ≡ k′ → w′ ≡ core-words k ++ drop 68 w → Shaped k → decode w′ ≡ Some k′
+written w w′ k k′ n e f s = ap decode f ∙ words-back k w s n ∙ ap Some e

@@ -6,3 +6,4 @@ pub mod WorkRules
 pub mod Step
 pub mod Layout
 pub mod Model
+pub mod Stands
