@@ -1,0 +1,2 @@
+// The manual as a program: the reference model that cores are compared with.
+pub mod memory;
