@@ -1,2 +1,4 @@
 // The manual as a program: the reference model that cores are compared with.
+pub mod machine;
 pub mod memory;
+pub mod trace;
