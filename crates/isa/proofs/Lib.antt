@@ -5,3 +5,8 @@ pub mod Lists
 pub mod Same
 pub mod Does
 pub mod Fits
+pub mod StepByTrace
+pub mod RunSteps
+pub mod RunByTrace
+pub mod MoreAnswers
+pub mod WordState

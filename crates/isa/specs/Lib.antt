@@ -5,3 +5,6 @@ pub mod Registers
 pub mod Ops
 pub mod Decoding
 pub mod Executing
+pub mod Traces
+pub mod Runs
+pub mod Widths

@@ -4,5 +4,6 @@ pub mod decode;
 pub mod execute;
 pub mod fields;
 pub mod instr;
+pub mod laws;
 pub mod reg;
 pub mod regs;
