@@ -1,2 +1,4 @@
 mod Words
 mod Asking
+mod Recording
+mod Running

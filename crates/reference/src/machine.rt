@@ -5,10 +5,14 @@ ghost use Prim.Native.Nat.{ℕ, _*_, _/_, _+_};
 ghost use lib.ListN.{drop};
 ghost use Rattle.isa.specs.Manual.{asked, saved, step};
 ghost use Rattle.isa.specs.Executing.{enact};
+ghost use Rattle.std.specs.Vec.{made};
+ghost use Rattle.reference.specs.History.{History-of};
 ghost use Rattle.reference.specs.Memory.{words-of};
 ghost use Rattle.reference.specs.Machine.{started, state, written, moved, traced, untraced, Steps-to, Tries-to};
+use crate::history::History;
 use crate::memory::Memory;
 use crate::trace::Effect;
+use crate::trace::End;
 use crate::trace::Step;
 use crate::trace::Trace;
 use isa::execute::Outcome;
@@ -16,6 +20,7 @@ use isa::execute::perform;
 use isa::reg::Reg;
 use isa::regs::Regs;
 use std::alloc::AllocError;
+use std::alloc::Global;
 
 // Devices have the addresses from here on.
 pub const DEVICES: u32 = 0x8000_0000;
@@ -23,10 +28,10 @@ pub const DEVICES: u32 = 0x8000_0000;
 // `used` counts the devices' answers that it has read.
 #[derive(Drop)]
 pub struct Machine {
-    regs: Regs,
-    pc: u32,
-    memory: Memory,
-    used: usize,
+    pub regs: Regs,
+    pub pc: u32,
+    pub memory: Memory,
+    pub used: usize,
 }
 
 impl Machine {
@@ -142,5 +147,27 @@ impl Machine {
         let word = code.get(self.pc / 4);
         let outcome = perform(&self.regs, self.pc, word);
         self.enact(outcome, answers)
+    }
+
+    // The first `count` instructions, fewer where it stops or an answer is missing. On an error the machine stands
+    // somewhere on the way.
+    pub fn run(
+        &mut self,
+        heap: Global,
+        code: &Memory,
+        answers: &[u32],
+        count: usize,
+    ) -> Result<History, AllocError>
+        ensures { λ r. ⌜ made r (λ h. History-of h (words-of (now (code .entry))) (state (now (self .entry)) (now (answers .entry))) count (state (now (self .exit)) (now (answers .entry)))) ⌝ }
+    {
+        let mut history = History::new(heap);
+        for _ in 0..count {
+            match self.step(code, answers)? {
+                Step::Done { trace, effect } => history.push(trace, effect)?,
+                Step::Stopped(stop) => return Ok(history.ended(End::Stopped(stop))),
+                Step::NoAnswer => return Ok(history.ended(End::NoAnswer)),
+            }
+        }
+        Ok(history)
     }
 }

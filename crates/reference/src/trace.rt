@@ -26,3 +26,11 @@ pub enum Step {
     Stopped(Stop),
     NoAnswer,
 }
+
+// How a run ended: after as many instructions as it was to do, or before.
+#[derive(Clone, Copy)]
+pub enum End {
+    Running,
+    Stopped(Stop),
+    NoAnswer,
+}
