@@ -1,1 +1,10 @@
 pub mod Examples
+pub mod AtPorts
+pub mod Histories
+pub mod Queues
+pub mod ViewClock
+pub mod Settling
+pub mod Waiting
+pub mod Reaching
+pub mod Invariants
+pub mod Calls

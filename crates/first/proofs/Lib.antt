@@ -1,0 +1,12 @@
+pub mod Tests
+pub mod Newest
+pub mod Parts
+pub mod RoundTrip
+pub mod Ring
+pub mod ModelOf
+pub mod FetchModel
+pub mod StoreModel
+pub mod LsuModel
+pub mod WorkModel
+pub mod ActModel
+pub mod ClockModel

@@ -1,0 +1,48 @@
+// Laws of the outside and of any core, that no core owns: each function's contract is the theorem, and its proof the theorem's.
+ghost use Rattle.pins.specs.History.{History-laws};
+ghost use Rattle.pins.specs.View.{View-laws};
+ghost use Rattle.pins.specs.Settled.{Settled-laws};
+ghost use Rattle.pins.specs.Waits.{Wait-laws};
+ghost use Rattle.pins.specs.Reach.{Reach-laws, Call-laws};
+
+// The outside and what was shown, over histories put together.
+pub fn histories() -> bool
+    ensures { λ _. ⌜ History-laws ⌝ }
+{
+    true
+}
+
+// One clock more is its answers taken from the view and what it shows added.
+pub fn view_by_clocks() -> bool
+    ensures { λ _. ⌜ View-laws ⌝ }
+{
+    true
+}
+
+// What an open request will be answered with is settled when it is asked for; memory is the first with the effects done.
+pub fn settled_answers() -> bool
+    ensures { λ _. ⌜ Settled-laws ⌝ }
+{
+    true
+}
+
+// What is open gets older clock by clock, and with answers within l clocks all of it is answered by l + 1.
+pub fn waits() -> bool
+    ensures { λ _. ⌜ Wait-laws ⌝ }
+{
+    true
+}
+
+// Of any core with states S: a history determines the state, and its parts go through states.
+pub fn reach<S>() -> bool
+    ensures { λ _. ⌜ Reach-laws S ⌝ }
+{
+    true
+}
+
+// Of any core with states S: what its calls have to show of their words.
+pub fn calls<S>() -> bool
+    ensures { λ _. ⌜ Call-laws S ⌝ }
+{
+    true
+}
