@@ -1,10 +1,14 @@
 -- The history of a run, step by step.
 use mathlib.Core.Path.{_≡_, refl, sym, ap, ap₂, subst, _∙_}
+use mathlib.Core.Bool.{true, false, true≢false}
 use mathlib.Core.List.{List, [], _∷_, _++_}
-use Prim.Native.Nat.{ℕ, suc, _+_, _-_, _<_}
+use Prim.Native.Nat.{ℕ, suc, _+_, _-_, _<_, _≤_}
 use native.Mathlib.Numerals.{add-one}
 use native.Mathlib.Omega.{arith}
 use Rattle.std.specs.declared.option.Option.{Option}
+use Rattle.std.specs.declared.result.Result.{Result}
+use Rattle.std.specs.declared.result.Result.the-variants.{Ok, Err}
+use Rattle.std.specs.Results.{isErr}
 use Rattle.isa.specs.Manual.{Code, S, Ret, Next, goes, stops, step, Run, run}
 use Rattle.isa.specs.Runs.{At, with-step}
 use Rattle.isa.proofs.RunSteps.{at-zero, at-suc, rets-suc, evs-suc, run-laws}
@@ -16,7 +20,7 @@ use Rattle.reference.specs.declared.trace.Effect.{Effect}
 use Rattle.reference.specs.declared.trace.End.{End}
 use Rattle.reference.specs.declared.trace.End.the-variants.{Running}
 use Rattle.reference.specs.Machine.{ret-of, events-of, next-of, Steps-to}
-use Rattle.reference.specs.History.{rets-of, evs-of, Ends, History-of}
+use Rattle.reference.specs.History.{rets-of, evs-of, Ends, History-of, Runs-to}
 
 -- a history in the middle of a run
 pub record So-far (h : History) (c : Code) (s : S) (n : ℕ) (u : S) : Type 0 where
@@ -37,6 +41,11 @@ all-done {h} {c} {s} {u} {n} p e = subst (λ k. History-of h c s k u) e all
 -- what came of a step, in the manual
 pub came : {k j : Step} {m u : Machine} {answers : List ℕ} {n : Next} → k ≡ j → Steps-to k m u answers n → next-of j u answers ≡ n
 came {u = u} {answers} e p = ap (λ x. next-of x u answers) (sym e) ∙ p .next
+
+-- without memory
+pub on-the-way : {E : Type 0} (r : Result History E) {c : Code} {s u : S} {n k : ℕ} → isErr r ≡ true → k ≤ n → At c s k u → Runs-to r c s n u
+on-the-way (Ok h) e l p = absurd (true≢false (sym e))
+on-the-way (Err x) {k = k} e l p = (k, l, p)
 
 module _ {h : History} {c : Code} {s u : S} {n : ℕ} (p : So-far h c s n u) (g : History) where
   pub one-more : {v : S} (t : Trace) (e : Option Effect) → goes v (ret-of t) (events-of e) ≡ step c u

@@ -1,7 +1,9 @@
 -- A history of a run, and the manual's run.
 use mathlib.Core.Path.{_≡_}
 use mathlib.Core.List.{List, map}
-use Prim.Native.Nat.{ℕ}
+use Prim.Native.Nat.{ℕ, _≤_}
+use Rattle.std.specs.declared.result.Result.{Result}
+use Rattle.std.specs.declared.result.Result.the-variants.{Ok, Err}
 use Rattle.std.specs.Of.Vec.{vec-items}
 use Rattle.isa.specs.Manual.{Code, S, Ret, Ev, stops, Run, run}
 use Rattle.isa.specs.Executing.{how}
@@ -28,3 +30,8 @@ pub record History-of (h : History) (c : Code) (s : S) (n : ℕ) (u : S) : Type 
   pub rets : rets-of h ≡ run c s n .rets
   pub evs : evs-of h ≡ run c s n .evs
   pub ends : Ends (h .end) c s n u
+
+-- what a run came to: its history; without memory, it stands somewhere on the way
+abbrev pub Runs-to : {E : Type 0} → Result History E → Code → S → ℕ → S → Type 0
+Runs-to (Ok h) c s n u = History-of h c s n u
+Runs-to (Err e) c s n u = (k : ℕ) × (k ≤ n) × At c s k u

@@ -18,7 +18,7 @@ pub struct History {
 }
 
 impl History {
-    pub fn new(heap: Global) -> History
+    pub(crate) fn new(heap: Global) -> History
         ensures traces { λ r. ⌜ rets-of r ≡ [] ⌝ }
         ensures effects { λ r. ⌜ evs-of r ≡ [] ⌝ }
         ensures end { λ r. ⌜ r .end ≡ End.Running ⌝ }
@@ -31,7 +31,7 @@ impl History {
     }
 
     // One instruction more.
-    pub fn push(&mut self, trace: Trace, effect: Option<Effect>) -> Result<(), AllocError>
+    pub(crate) fn push(&mut self, trace: Trace, effect: Option<Effect>) -> Result<(), AllocError>
         ensures traces { λ r. ⌜ made r (λ _. rets-of (now (self .exit)) ≡ rets-of (now (self .entry)) ++ ret-of trace ∷ []) ⌝ }
         ensures effects { λ r. ⌜ made r (λ _. evs-of (now (self .exit)) ≡ evs-of (now (self .entry)) ++ events-of effect) ⌝ }
         ensures end { λ _. ⌜ now (self .exit) .end ≡ now (self .entry) .end ⌝ }
@@ -44,7 +44,7 @@ impl History {
     }
 
     // The same, ended so.
-    pub fn ended(self, end: End) -> History
+    pub(crate) fn ended(self, end: End) -> History
         ensures traces { λ r. ⌜ rets-of r ≡ rets-of self ⌝ }
         ensures effects { λ r. ⌜ evs-of r ≡ evs-of self ⌝ }
         ensures end { λ r. ⌜ r .end ≡ end ⌝ }

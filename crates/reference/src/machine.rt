@@ -5,8 +5,7 @@ ghost use Prim.Native.Nat.{ℕ, _*_, _/_, _+_};
 ghost use lib.ListN.{drop};
 ghost use Rattle.isa.specs.Manual.{asked, saved, step};
 ghost use Rattle.isa.specs.Executing.{enact};
-ghost use Rattle.std.specs.Vec.{made};
-ghost use Rattle.reference.specs.History.{History-of};
+ghost use Rattle.reference.specs.History.{Runs-to};
 ghost use Rattle.reference.specs.Memory.{words-of};
 ghost use Rattle.reference.specs.Machine.{started, state, written, moved, traced, untraced, Steps-to, Tries-to};
 use crate::history::History;
@@ -158,7 +157,7 @@ impl Machine {
         answers: &[u32],
         count: usize,
     ) -> Result<History, AllocError>
-        ensures { λ r. ⌜ made r (λ h. History-of h (words-of (now (code .entry))) (state (now (self .entry)) (now (answers .entry))) count (state (now (self .exit)) (now (answers .entry)))) ⌝ }
+        ensures { λ r. ⌜ Runs-to r (words-of (now (code .entry))) (state (now (self .entry)) (now (answers .entry))) count (state (now (self .exit)) (now (answers .entry))) ⌝ }
     {
         let mut history = History::new(heap);
         for _ in 0..count {
