@@ -1,0 +1,2 @@
+// Text of programs: an assembler, a disassembler and a reader of hex words.
+pub mod encode;
