@@ -1,2 +1,6 @@
 // Text of programs: an assembler, a disassembler and a reader of hex words.
 pub mod encode;
+pub mod error;
+pub mod listing;
+pub mod names;
+pub mod program;
