@@ -3,76 +3,102 @@ use std::alloc::AllocError;
 use std::alloc::Refused;
 use std::fmt;
 
-// A fault, and the line that has it, counted from 1.
+// What is wrong, the line that has it, counted from 1, and the text that is at fault.
 #[derive(Clone, Copy)]
 pub struct AsmError<'a> {
     pub line: usize,
-    pub fault: Fault<'a>,
+    pub problem: Problem,
+    pub text: &'a str,
 }
 
 #[derive(Clone, Copy)]
-pub enum Fault<'a> {
-    UnknownInstruction(&'a str),
-    UnknownDirective(&'a str),
-    BadRegister(&'a str),
-    BadNumber(&'a str),
-    BadLabel(&'a str),
-    UndefinedLabel(&'a str),
-    LabelTwice(&'a str),
-    OutOfRange(&'a str),
-    MissingOperand(&'a str),
-    TooManyOperands(&'a str),
-    BadAddress(&'a str),
-    NotData(&'a str),
+pub enum Problem {
+    UnknownInstruction,
+    UnknownDirective,
+    MissingOperand,
+    TooManyOperands,
+    BadRegister,
+    BadNumber,
+    BadAddress,
+    OutOfRange,
+    BadLabel,
+    UndefinedLabel,
+    LabelTwice,
+    StartTwice,
+    NotData,
+    NoDataAddress,
+    NotInData(u32),
     Misaligned(u32),
     PlacedTwice(u32),
-    NoDataAddress,
-    DataAddress(u32),
     NoMemory,
-}
-
-pub impl fmt::Display for Fault<'_> as FaultDisplay {
-    fn fmt<W: fmt::Write>(&self, f: &mut fmt::Formatter<W>) -> fmt::Result {
-        match *self {
-            Fault::UnknownInstruction(name) => write!(f, "unknown instruction '{name}'"),
-            Fault::UnknownDirective(name) => write!(f, "unknown directive '{name}'"),
-            Fault::BadRegister(text) => write!(f, "'{text}' is no register"),
-            Fault::BadNumber(text) => write!(f, "'{text}' is no number"),
-            Fault::BadLabel(text) => write!(f, "'{text}' can't be a label"),
-            Fault::UndefinedLabel(name) => write!(f, "undefined label '{name}'"),
-            Fault::LabelTwice(name) => write!(f, "label '{name}' is defined twice"),
-            Fault::OutOfRange(text) => write!(f, "'{text}' is out of range"),
-            Fault::MissingOperand(name) => write!(f, "'{name}' lacks an operand"),
-            Fault::TooManyOperands(name) => write!(f, "'{name}' has too many operands"),
-            Fault::BadAddress(text) => write!(f, "'{text}' is not of the form offset(register)"),
-            Fault::NotData(name) => write!(f, "'{name}' stands among data"),
-            Fault::Misaligned(address) => write!(f, "address {address:#x} is not a multiple of 4"),
-            Fault::PlacedTwice(address) => write!(f, "a second word at address {address:#x}"),
-            Fault::NoDataAddress => write!(f, "the first '.data' needs an address"),
-            Fault::DataAddress(address) => {
-                write!(f, "data at address {address:#x}, which is a device's")
-            }
-            Fault::NoMemory => write!(f, "out of memory"),
-        }
-    }
 }
 
 pub impl fmt::Display for AsmError<'_> as AsmErrorDisplay {
     fn fmt<W: fmt::Write>(&self, f: &mut fmt::Formatter<W>) -> fmt::Result {
         let line = self.line;
-        let fault = self.fault;
-        write!(f, "line {line}: {fault}")
+        let text = self.text;
+        write!(f, "line {line}: ")?;
+        match self.problem {
+            Problem::UnknownInstruction => write!(f, "unknown instruction '{text}'"),
+            Problem::UnknownDirective => write!(f, "unknown directive '{text}'"),
+            Problem::MissingOperand => write!(f, "missing operand of '{text}'"),
+            Problem::TooManyOperands => write!(f, "too many operands of '{text}'"),
+            Problem::BadRegister => write!(f, "no register '{text}'"),
+            Problem::BadNumber => write!(f, "no number '{text}'"),
+            Problem::BadAddress => write!(f, "not of the form offset(register): '{text}'"),
+            Problem::OutOfRange => write!(f, "out of range '{text}'"),
+            Problem::BadLabel => write!(f, "not a name for a label '{text}'"),
+            Problem::UndefinedLabel => write!(f, "undefined label '{text}'"),
+            Problem::LabelTwice => write!(f, "label defined twice '{text}'"),
+            Problem::StartTwice => write!(f, "a second start '{text}'"),
+            Problem::NotData => write!(f, "instruction among data '{text}'"),
+            Problem::NoDataAddress => write!(f, "no address of the first data '{text}'"),
+            Problem::NotInData(address) => write!(f, "data at a device's address {address:#x}"),
+            Problem::Misaligned(address) => write!(f, "not a multiple of 4: {address:#x}"),
+            Problem::PlacedTwice(address) => write!(f, "a second word at address {address:#x}"),
+            Problem::NoMemory => write!(f, "out of memory"),
+        }
     }
 }
 
-pub impl<'a> From<AllocError> for Fault<'a> as FaultFromAlloc {
-    fn from(_e: AllocError) -> Fault<'a> {
-        Fault::NoMemory
+// The part of a statement that is at fault.
+#[derive(Clone, Copy)]
+pub enum Part {
+    Name,
+    Operand(usize),
+}
+
+// What is wrong with a statement, and with which part of it.
+#[derive(Clone, Copy)]
+pub struct Fault {
+    pub problem: Problem,
+    pub part: Part,
+}
+
+impl Fault {
+    pub fn name(problem: Problem) -> Fault {
+        Fault {
+            problem,
+            part: Part::Name,
+        }
+    }
+
+    pub fn operand(place: usize, problem: Problem) -> Fault {
+        Fault {
+            problem,
+            part: Part::Operand(place),
+        }
     }
 }
 
-pub impl<'a, T: Drop> From<Refused<T>> for Fault<'a> as FaultFromRefused {
-    fn from(_e: Refused<T>) -> Fault<'a> {
-        Fault::NoMemory
+pub impl From<AllocError> for Fault as FaultFromAlloc {
+    fn from(_e: AllocError) -> Fault {
+        Fault::name(Problem::NoMemory)
+    }
+}
+
+pub impl<T: Drop> From<Refused<T>> for Fault as FaultFromRefused {
+    fn from(_e: Refused<T>) -> Fault {
+        Fault::name(Problem::NoMemory)
     }
 }

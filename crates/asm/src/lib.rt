@@ -4,3 +4,4 @@ pub mod error;
 pub mod listing;
 pub mod names;
 pub mod program;
+pub mod text;
