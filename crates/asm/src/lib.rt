@@ -4,4 +4,5 @@ pub mod error;
 pub mod listing;
 pub mod names;
 pub mod program;
+pub mod symbols;
 pub mod text;
