@@ -1,6 +1,7 @@
 // Text of programs: an assembler, a disassembler and a reader of hex words.
 pub mod encode;
 pub mod error;
+pub mod instruction;
 pub mod listing;
 pub mod names;
 pub mod program;

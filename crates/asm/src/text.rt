@@ -4,6 +4,8 @@ use crate::error::Fault;
 use crate::error::Part;
 use crate::error::Problem;
 use crate::names::register;
+use crate::symbols::Symbols;
+use crate::symbols::value;
 use isa::reg::Reg;
 
 // What stands on a line, without its comment.
@@ -154,15 +156,35 @@ impl<'a> Statement<'a> {
         }
     }
 
-    // The offset and the register of an operand `offset(register)`.
-    pub fn address(self, place: usize) -> Result<(&'a str, &'a str), Fault> {
-        let text = self.operand(place)?;
-        let Some((offset, rest)) = text.rsplit_once('(') else {
+    pub fn value(self, place: usize, symbols: &Symbols<'_>) -> Result<u32, Fault> {
+        match value(symbols, self.operand(place)?) {
+            Ok(n) => Ok(n),
+            Err(problem) => Err(Fault::operand(place, problem)),
+        }
+    }
+
+    // How far a target lies from `pc`.
+    pub fn offset(self, place: usize, symbols: &Symbols<'_>, pc: u32) -> Result<u32, Fault> {
+        Ok(self.value(place, symbols)?.wrapping_sub(pc))
+    }
+
+    // The register and the offset of an operand `offset(register)`, where no offset is 0.
+    pub fn address(self, place: usize, symbols: &Symbols<'_>) -> Result<(Reg, u32), Fault> {
+        let Some((offset, rest)) = self.operand(place)?.rsplit_once('(') else {
             return Err(Fault::operand(place, Problem::BadAddress));
         };
         let Some(base) = rest.strip_suffix(')') else {
             return Err(Fault::operand(place, Problem::BadAddress));
         };
-        Ok((offset.trim(), base.trim()))
+        let Some(reg) = register(base.trim()) else {
+            return Err(Fault::operand(place, Problem::BadRegister));
+        };
+        if offset.trim().is_empty() {
+            return Ok((reg, 0));
+        }
+        match value(symbols, offset.trim()) {
+            Ok(n) => Ok((reg, n)),
+            Err(problem) => Err(Fault::operand(place, problem)),
+        }
     }
 }
