@@ -12,11 +12,9 @@ use crate::text::Statement;
 use isa::instr::AluOp;
 use isa::instr::Cond;
 use isa::instr::Instr;
+use crate::names::RA;
 use isa::reg::Reg;
 use isa::instr::AluOpPartialEq;
-
-pub const ZERO: u8 = 0;
-pub const RA: u8 = 1;
 
 // The word of an instruction; it is refused for the operand at `place`.
 pub fn word(instr: Instr, place: usize) -> Result<u32, Fault>
@@ -28,7 +26,12 @@ pub fn word(instr: Instr, place: usize) -> Result<u32, Fault>
     }
 }
 
-pub fn instruction(m: Mnemonic, s: Statement<'_>, symbols: &Symbols<'_>, pc: u32) -> Result<u32, Fault> {
+pub fn instruction(
+    m: Mnemonic,
+    s: Statement<'_>,
+    symbols: &Symbols<'_>,
+    pc: u32,
+) -> Result<u32, Fault> {
     match m {
         Mnemonic::Lui => {
             let (rd, imm) = upper_operands(s, symbols)?;
@@ -45,26 +48,20 @@ pub fn instruction(m: Mnemonic, s: Statement<'_>, symbols: &Symbols<'_>, pc: u32
             branch(cond, s.register(0)?, s.register(1)?, s.offset(2, symbols, pc)?, 2)
         }
         Mnemonic::Load => {
-            s.expect(2)?;
-            let rd = s.register(0)?;
-            let (rs1, offset) = s.address(1, symbols)?;
+            let (rd, rs1, offset) = memory_operands(s, symbols)?;
             word(Instr::Load { rd, rs1, offset }, 1)
         }
         Mnemonic::Store => {
-            s.expect(2)?;
-            let rs2 = s.register(0)?;
-            let (rs1, offset) = s.address(1, symbols)?;
+            let (rs2, rs1, offset) = memory_operands(s, symbols)?;
             word(Instr::Store { rs1, rs2, offset }, 1)
         }
         Mnemonic::AluImm(op) => alu_imm(op, s, symbols),
         Mnemonic::AluReg(op) => {
-            s.expect(3)?;
-            let (rd, rs1, rs2) = (s.register(0)?, s.register(1)?, s.register(2)?);
+            let (rd, rs1, rs2) = three_registers(s)?;
             word(Instr::AluReg { op, rd, rs1, rs2 }, 2)
         }
         Mnemonic::MulDiv(op) => {
-            s.expect(3)?;
-            let (rd, rs1, rs2) = (s.register(0)?, s.register(1)?, s.register(2)?);
+            let (rd, rs1, rs2) = three_registers(s)?;
             word(Instr::MulDiv { op, rd, rs1, rs2 }, 2)
         }
         Mnemonic::Ecall => {
@@ -72,6 +69,19 @@ pub fn instruction(m: Mnemonic, s: Statement<'_>, symbols: &Symbols<'_>, pc: u32
             word(Instr::Ecall, 0)
         }
     }
+}
+
+// `r, offset(rs1)`.
+fn memory_operands(s: Statement<'_>, symbols: &Symbols<'_>) -> Result<(Reg, Reg, u32), Fault> {
+    s.expect(2)?;
+    let r = s.register(0)?;
+    let (rs1, offset) = s.address(1, symbols)?;
+    Ok((r, rs1, offset))
+}
+
+fn three_registers(s: Statement<'_>) -> Result<(Reg, Reg, Reg), Fault> {
+    s.expect(3)?;
+    Ok((s.register(0)?, s.register(1)?, s.register(2)?))
 }
 
 // Of `lui` and `auipc`: a register and 20 bits.
@@ -88,7 +98,7 @@ fn upper_operands(s: Statement<'_>, symbols: &Symbols<'_>) -> Result<(Reg, u32),
 // `jal rd, target` or `jal target`, which puts the return address into `ra`.
 fn jal(s: Statement<'_>, symbols: &Symbols<'_>, pc: u32) -> Result<u32, Fault> {
     if s.count() < 2 {
-        return jump(Reg { number: RA }, s, symbols, pc);
+        return jump(RA, s, symbols, pc);
     }
     s.expect(2)?;
     let rd = s.register(0)?;
@@ -106,7 +116,7 @@ pub fn jump(rd: Reg, s: Statement<'_>, symbols: &Symbols<'_>, pc: u32) -> Result
 // `jalr rd, offset(rs1)`, `jalr rd, rs1, offset` or `jalr rs1`, which puts the return address into `ra`.
 fn jalr(s: Statement<'_>, symbols: &Symbols<'_>) -> Result<u32, Fault> {
     match s.count() {
-        0 | 1 => jump_register(Reg { number: RA }, s),
+        0 | 1 => jump_register(RA, s),
         2 => {
             let rd = s.register(0)?;
             let (rs1, offset) = s.address(1, symbols)?;

@@ -4,6 +4,8 @@ pub mod error;
 pub mod instruction;
 pub mod listing;
 pub mod names;
+pub mod operands;
 pub mod program;
+pub mod pseudo;
 pub mod symbols;
 pub mod text;

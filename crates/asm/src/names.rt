@@ -9,6 +9,11 @@ use isa::instr::AluOpPartialEq;
 use isa::instr::CondPartialEq;
 use isa::instr::MulOpPartialEq;
 
+// The register that is always 0, and the one that holds the return address.
+pub const ZERO: Reg = Reg { number: 0 };
+
+pub const RA: Reg = Reg { number: 1 };
+
 static REGISTERS: [&str; 32] = [
     "zero", "ra", "sp", "gp", "tp", "t0", "t1", "t2", "s0", "s1", "a0", "a1", "a2", "a3", "a4", "a5",
     "a6", "a7", "s2", "s3", "s4", "s5", "s6", "s7", "s8", "s9", "s10", "s11", "t3", "t4", "t5", "t6",
