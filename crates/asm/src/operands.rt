@@ -1,4 +1,5 @@
 // The operands of a statement, by their places from 0.
+use crate::error::AsmError;
 use crate::error::Fault;
 use crate::error::Part;
 use crate::error::Problem;
@@ -14,6 +15,14 @@ impl<'a> Statement<'a> {
         match part {
             Part::Name => self.name,
             Part::Operand(place) => self.operands.split(',').nth(place).unwrap_or("").trim(),
+        }
+    }
+
+    pub fn blame(self, fault: Fault, line: usize) -> AsmError<'a> {
+        AsmError {
+            line,
+            problem: fault.problem,
+            text: self.part(fault.part),
         }
     }
 
@@ -34,6 +43,14 @@ impl<'a> Statement<'a> {
         } else {
             Ok(())
         }
+    }
+
+    // Refuses a list with nothing in it.
+    pub fn expect_some(self) -> Result<(), Fault> {
+        if self.count() == 0 {
+            return Err(Fault::name(Problem::MissingOperand));
+        }
+        Ok(())
     }
 
     // An operand by its place, from 0.

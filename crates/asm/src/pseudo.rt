@@ -92,10 +92,10 @@ impl Words {
     }
 }
 
-// How many words `li` or `la` takes: one if half of the constant is enough, and it is a number, known before any label.
-pub fn constant_size(p: Pseudo, s: Statement<'_>) -> Result<usize, Fault> {
+// How many words `li` takes: one if half of the value is enough, and it is a number, known before any label.
+pub fn constant_size(s: Statement<'_>) -> Result<usize, Fault> {
     let text = s.operand(1)?;
-    if matches!(p, Pseudo::La) || !is_number(text) {
+    if !is_number(text) {
         return Ok(2);
     }
     match number(text) {
@@ -105,24 +105,23 @@ pub fn constant_size(p: Pseudo, s: Statement<'_>) -> Result<usize, Fault> {
     }
 }
 
-pub fn constant_words(p: Pseudo, s: Statement<'_>, symbols: &Symbols<'_>) -> Result<Words, Fault> {
+// The words of `li` and `la`, as many as `size`.
+fn constant(s: Statement<'_>, symbols: &Symbols<'_>, size: usize) -> Result<Words, Fault> {
     s.expect(2)?;
     let rd = s.register(0)?;
     let value = s.value(1, symbols)?;
-    let high = Instr::Lui {
-        rd,
-        imm: upper(value) << 12,
-    };
-    if constant_size(p, s)? == 2 {
+    let imm = upper(value) << 12;
+    let high = word(Instr::Lui { rd, imm }, 1)?;
+    if size == 2 {
         return Ok(Words {
-            first: word(high, 1)?,
+            first: high,
             second: Some(add_imm(rd, rd, lower(value))?),
         });
     }
     if lower(value) == value {
         Ok(Words::one(add_imm(rd, ZERO, value)?))
     } else {
-        Ok(Words::one(word(high, 1)?))
+        Ok(Words::one(high))
     }
 }
 
@@ -131,51 +130,61 @@ fn add_imm(rd: Reg, rs1: Reg, imm: u32) -> Result<u32, Fault> {
     word(Instr::AluImm { op, rd, rs1, imm }, 1)
 }
 
-// The word of a pseudo-instruction but `li` and `la`.
-pub fn pseudo_word(p: Pseudo, s: Statement<'_>, symbols: &Symbols<'_>, pc: u32) -> Result<u32, Fault> {
-    match p {
-        Pseudo::J => jump(ZERO, s, symbols, pc),
-        Pseudo::Call => jump(RA, s, symbols, pc),
-        Pseudo::Jr => jump_register(ZERO, s),
+pub fn pseudo_words(
+    p: Pseudo,
+    s: Statement<'_>,
+    symbols: &Symbols<'_>,
+    pc: u32,
+) -> Result<Words, Fault> {
+    let first = match p {
+        Pseudo::Nop => nop(s)?,
+        Pseudo::Ret => ret(s)?,
+        Pseudo::J => jump(ZERO, s, symbols, pc)?,
+        Pseudo::Call => jump(RA, s, symbols, pc)?,
+        Pseudo::Jr => jump_register(ZERO, s)?,
+        Pseudo::Li => return constant(s, symbols, constant_size(s)?),
+        Pseudo::La => return constant(s, symbols, 2),
+        Pseudo::WithNumber(op, imm) => {
+            let (rd, rs1) = two_registers(s)?;
+            word(Instr::AluImm { op, rd, rs1, imm }, 0)?
+        }
+        Pseudo::ZeroFirst(op) => {
+            let (rd, rs) = two_registers(s)?;
+            operation(op, rd, ZERO, rs)?
+        }
+        Pseudo::ZeroLast(op) => {
+            let (rd, rs) = two_registers(s)?;
+            operation(op, rd, rs, ZERO)?
+        }
         Pseudo::BranchZero(cond) => {
             s.expect(2)?;
-            branch(cond, s.register(0)?, ZERO, s.offset(1, symbols, pc)?, 1)
+            branch(cond, s.register(0)?, ZERO, s.offset(1, symbols, pc)?, 1)?
         }
         Pseudo::ZeroBranch(cond) => {
             s.expect(2)?;
-            branch(cond, ZERO, s.register(0)?, s.offset(1, symbols, pc)?, 1)
+            branch(cond, ZERO, s.register(0)?, s.offset(1, symbols, pc)?, 1)?
         }
         Pseudo::Swapped(cond) => {
             s.expect(3)?;
-            branch(cond, s.register(1)?, s.register(0)?, s.offset(2, symbols, pc)?, 2)
+            branch(cond, s.register(1)?, s.register(0)?, s.offset(2, symbols, pc)?, 2)?
         }
-        _ => pseudo_operation(p, s),
-    }
+    };
+    Ok(Words::one(first))
 }
 
-fn pseudo_operation(p: Pseudo, s: Statement<'_>) -> Result<u32, Fault> {
-    match p {
-        Pseudo::WithNumber(op, imm) => {
-            let (rd, rs1) = two_registers(s)?;
-            word(Instr::AluImm { op, rd, rs1, imm }, 0)
-        }
-        Pseudo::ZeroFirst(op) => {
-            let (rd, rs2) = two_registers(s)?;
-            word(Instr::AluReg { op, rd, rs1: ZERO, rs2 }, 0)
-        }
-        Pseudo::ZeroLast(op) => {
-            let (rd, rs1) = two_registers(s)?;
-            word(Instr::AluReg { op, rd, rs1, rs2: ZERO }, 0)
-        }
-        Pseudo::Ret => {
-            s.expect(0)?;
-            word(Instr::Jalr { rd: ZERO, rs1: RA, offset: 0 }, 0)
-        }
-        _ => {
-            s.expect(0)?;
-            add_imm(ZERO, ZERO, 0)
-        }
-    }
+fn nop(s: Statement<'_>) -> Result<u32, Fault> {
+    s.expect(0)?;
+    add_imm(ZERO, ZERO, 0)
+}
+
+fn ret(s: Statement<'_>) -> Result<u32, Fault> {
+    s.expect(0)?;
+    let offset = 0;
+    word(Instr::Jalr { rd: ZERO, rs1: RA, offset }, 0)
+}
+
+fn operation(op: AluOp, rd: Reg, rs1: Reg, rs2: Reg) -> Result<u32, Fault> {
+    word(Instr::AluReg { op, rd, rs1, rs2 }, 0)
 }
 
 fn two_registers(s: Statement<'_>) -> Result<(Reg, Reg), Fault> {
