@@ -15,6 +15,10 @@ pub fn assemble<'a>(heap: Global, text: &'a str) -> Result<Program, AsmError<'a>
     let symbols = find_labels(heap, text)?;
     let mut out = Output::new(heap);
     place_words(&mut out, text, &symbols)?;
+    finish(heap, out, text)
+}
+
+pub fn finish<'a>(heap: Global, out: Output, text: &'a str) -> Result<Program, AsmError<'a>> {
     match out.program(heap) {
         Ok(program) => Ok(program),
         Err(_) => Err(AsmError {
@@ -43,7 +47,11 @@ fn find_labels<'a>(heap: Global, text: &'a str) -> Result<Symbols<'a>, AsmError<
     Ok(symbols)
 }
 
-fn place_words<'a>(out: &mut Output, text: &'a str, symbols: &Symbols<'a>) -> Result<(), AsmError<'a>> {
+fn place_words<'a>(
+    out: &mut Output,
+    text: &'a str,
+    symbols: &Symbols<'a>,
+) -> Result<(), AsmError<'a>> {
     let mut cursor = Cursor::START;
     for (i, line) in text.lines().enumerate() {
         if let Some(statement) = split_line(line).statement {

@@ -6,13 +6,13 @@ ghost use Rattle.std.specs.declared.option.Option.the-variants.{Some};
 ghost use Rattle.isa.specs.Decoding.{decodes};
 use isa::decode::decode;
 use isa::instr::AluOp;
+use isa::instr::AluOpPartialEq;
 use isa::instr::Cond;
+use isa::instr::CondPartialEq;
 use isa::instr::Instr;
 use isa::instr::MulOp;
-use isa::reg::Reg;
-use isa::instr::AluOpPartialEq;
-use isa::instr::CondPartialEq;
 use isa::instr::MulOpPartialEq;
+use isa::reg::Reg;
 
 // The word that decodes to the instruction, or none if its immediate or offset doesn't fit.
 pub fn encode(instr: Instr) -> Option<u32>
@@ -20,7 +20,11 @@ pub fn encode(instr: Instr) -> Option<u32>
 {
     let word = build(instr);
     let decoded = decode(word)?;
-    if same(decoded, instr) { Some(word) } else { None }
+    if same(decoded, instr) {
+        Some(word)
+    } else {
+        None
+    }
 }
 
 // Whether two instructions are equal.
@@ -41,15 +45,30 @@ fn same(a: Instr, b: Instr) -> bool
             _ => false,
         },
         Instr::AluImm { op, rd, rs1, imm } => match b {
-            Instr::AluImm { op: o, rd: r, rs1: s, imm: i } => op == o && same_reg(rd, r) && same_reg(rs1, s) && imm == i,
+            Instr::AluImm {
+                op: o,
+                rd: r,
+                rs1: s,
+                imm: i,
+            } => op == o && same_reg(rd, r) && same_reg(rs1, s) && imm == i,
             _ => false,
         },
         Instr::AluReg { op, rd, rs1, rs2 } => match b {
-            Instr::AluReg { op: o, rd: r, rs1: s, rs2: t } => op == o && same_reg(rd, r) && same_reg(rs1, s) && same_reg(rs2, t),
+            Instr::AluReg {
+                op: o,
+                rd: r,
+                rs1: s,
+                rs2: t,
+            } => op == o && same_reg(rd, r) && same_reg(rs1, s) && same_reg(rs2, t),
             _ => false,
         },
         Instr::MulDiv { op, rd, rs1, rs2 } => match b {
-            Instr::MulDiv { op: o, rd: r, rs1: s, rs2: t } => op == o && same_reg(rd, r) && same_reg(rs1, s) && same_reg(rs2, t),
+            Instr::MulDiv {
+                op: o,
+                rd: r,
+                rs1: s,
+                rs2: t,
+            } => op == o && same_reg(rd, r) && same_reg(rs1, s) && same_reg(rs2, t),
             _ => false,
         },
         Instr::Ecall => matches!(b, Instr::Ecall),
@@ -63,19 +82,41 @@ fn same_access(a: Instr, b: Instr) -> bool
 {
     match a {
         Instr::Jalr { rd, rs1, offset } => match b {
-            Instr::Jalr { rd: r, rs1: s, offset: i } => same_reg(rd, r) && same_reg(rs1, s) && offset == i,
+            Instr::Jalr {
+                rd: r,
+                rs1: s,
+                offset: i,
+            } => same_reg(rd, r) && same_reg(rs1, s) && offset == i,
             _ => false,
         },
-        Instr::Branch { cond, rs1, rs2, offset } => match b {
-            Instr::Branch { cond: c, rs1: r, rs2: s, offset: i } => cond == c && same_reg(rs1, r) && same_reg(rs2, s) && offset == i,
+        Instr::Branch {
+            cond,
+            rs1,
+            rs2,
+            offset,
+        } => match b {
+            Instr::Branch {
+                cond: c,
+                rs1: r,
+                rs2: s,
+                offset: i,
+            } => cond == c && same_reg(rs1, r) && same_reg(rs2, s) && offset == i,
             _ => false,
         },
         Instr::Load { rd, rs1, offset } => match b {
-            Instr::Load { rd: r, rs1: s, offset: i } => same_reg(rd, r) && same_reg(rs1, s) && offset == i,
+            Instr::Load {
+                rd: r,
+                rs1: s,
+                offset: i,
+            } => same_reg(rd, r) && same_reg(rs1, s) && offset == i,
             _ => false,
         },
         Instr::Store { rs1, rs2, offset } => match b {
-            Instr::Store { rs1: r, rs2: s, offset: i } => same_reg(rs1, r) && same_reg(rs2, s) && offset == i,
+            Instr::Store {
+                rs1: r,
+                rs2: s,
+                offset: i,
+            } => same_reg(rs1, r) && same_reg(rs2, s) && offset == i,
             _ => false,
         },
         _ => false,
@@ -99,9 +140,7 @@ fn build(instr: Instr) -> u32 {
             rs1,
             rs2,
             offset,
-        } => {
-            branch_offset(offset) | at(rs2, 20) | at(rs1, 15) | cond_funct3(cond) << 12 | 0x63
-        }
+        } => { branch_offset(offset) | at(rs2, 20) | at(rs1, 15) | cond_funct3(cond) << 12 | 0x63 }
         Instr::Load { rd, rs1, offset } => {
             immediate(offset) | at(rs1, 15) | 2 << 12 | at(rd, 7) | 0x03
         }
@@ -112,7 +151,12 @@ fn build(instr: Instr) -> u32 {
             immediate(imm) | at(rs1, 15) | alu_funct3(op) << 12 | at(rd, 7) | 0x13
         }
         Instr::AluReg { op, rd, rs1, rs2 } => {
-            alu_funct7(op) << 25 | at(rs2, 20) | at(rs1, 15) | alu_funct3(op) << 12 | at(rd, 7) | 0x33
+            alu_funct7(op) << 25
+                | at(rs2, 20)
+                | at(rs1, 15)
+                | alu_funct3(op) << 12
+                | at(rd, 7)
+                | 0x33
         }
         Instr::MulDiv { op, rd, rs1, rs2 } => {
             1 << 25 | at(rs2, 20) | at(rs1, 15) | mul_funct3(op) << 12 | at(rd, 7) | 0x33

@@ -7,14 +7,14 @@ use crate::encode::encode;
 use crate::error::Fault;
 use crate::error::Problem;
 use crate::names::Mnemonic;
+use crate::names::RA;
 use crate::symbols::Symbols;
 use crate::text::Statement;
 use isa::instr::AluOp;
+use isa::instr::AluOpPartialEq;
 use isa::instr::Cond;
 use isa::instr::Instr;
-use crate::names::RA;
 use isa::reg::Reg;
-use isa::instr::AluOpPartialEq;
 
 // The word of an instruction; it is refused for the operand at `place`.
 pub fn word(instr: Instr, place: usize) -> Result<u32, Fault>
@@ -45,7 +45,13 @@ pub fn instruction(
         Mnemonic::Jalr => jalr(s, symbols),
         Mnemonic::Branch(cond) => {
             s.expect(3)?;
-            branch(cond, s.register(0)?, s.register(1)?, s.offset(2, symbols, pc)?, 2)
+            branch(
+                cond,
+                s.register(0)?,
+                s.register(1)?,
+                s.offset(2, symbols, pc)?,
+                2,
+            )
         }
         Mnemonic::Load => {
             let (rd, rs1, offset) = memory_operands(s, symbols)?;
@@ -139,7 +145,15 @@ pub fn jump_register(rd: Reg, s: Statement<'_>) -> Result<u32, Fault> {
 }
 
 pub fn branch(cond: Cond, rs1: Reg, rs2: Reg, offset: u32, place: usize) -> Result<u32, Fault> {
-    word(Instr::Branch { cond, rs1, rs2, offset }, place)
+    word(
+        Instr::Branch {
+            cond,
+            rs1,
+            rs2,
+            offset,
+        },
+        place,
+    )
 }
 
 // A shift to the right that keeps the sign has bit 10 of its immediate set.
@@ -147,6 +161,10 @@ fn alu_imm(op: AluOp, s: Statement<'_>, symbols: &Symbols<'_>) -> Result<u32, Fa
     s.expect(3)?;
     let (rd, rs1) = (s.register(0)?, s.register(1)?);
     let number = s.value(2, symbols)?;
-    let imm = if op == AluOp::Sra { number.wrapping_add(1 << 10) } else { number };
+    let imm = if op == AluOp::Sra {
+        number.wrapping_add(1 << 10)
+    } else {
+        number
+    };
     word(Instr::AluImm { op, rd, rs1, imm }, 2)
 }

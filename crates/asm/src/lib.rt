@@ -3,6 +3,7 @@ pub mod assemble;
 pub mod cursor;
 pub mod encode;
 pub mod error;
+pub mod hex;
 pub mod instruction;
 pub mod listing;
 pub mod names;

@@ -16,7 +16,9 @@ pub struct Listing {
 pub impl fmt::Display for Listing as ListingDisplay {
     fn fmt<W: fmt::Write>(&self, f: &mut fmt::Formatter<W>) -> fmt::Result {
         let word = self.word;
-        if let Some(instr) = decode(word) && let Some(name) = Mnemonic::of(instr).name() {
+        if let Some(instr) = decode(word)
+            && let Some(name) = Mnemonic::of(instr).name()
+        {
             f.write_str(name)?;
             return write_operands(f, instr, self.pc);
         }
@@ -32,20 +34,55 @@ fn write_operands<W: fmt::Write>(f: &mut fmt::Formatter<W>, instr: Instr, pc: u3
         Instr::Jal { rd, offset } => {
             write!(f, " {}, {:#x}", register_name(rd), pc.wrapping_add(offset))
         }
-        Instr::Branch { rs1, rs2, offset, .. } => {
-            write!(f, " {}, {}, {:#x}", register_name(rs1), register_name(rs2), pc.wrapping_add(offset))
+        Instr::Branch {
+            rs1,
+            rs2,
+            offset,
+            ..
+        } => {
+            write!(
+                f,
+                " {}, {}, {:#x}",
+                register_name(rs1),
+                register_name(rs2),
+                pc.wrapping_add(offset)
+            )
         }
         Instr::Jalr { rd, rs1, offset } | Instr::Load { rd, rs1, offset } => {
-            write!(f, " {}, {}({})", register_name(rd), offset.cast_signed(), register_name(rs1))
+            write!(
+                f,
+                " {}, {}({})",
+                register_name(rd),
+                offset.cast_signed(),
+                register_name(rs1)
+            )
         }
         Instr::Store { rs1, rs2, offset } => {
-            write!(f, " {}, {}({})", register_name(rs2), offset.cast_signed(), register_name(rs1))
+            write!(
+                f,
+                " {}, {}({})",
+                register_name(rs2),
+                offset.cast_signed(),
+                register_name(rs1)
+            )
         }
         Instr::AluImm { op, rd, rs1, imm } => {
-            write!(f, " {}, {}, {}", register_name(rd), register_name(rs1), operand(op, imm))
+            write!(
+                f,
+                " {}, {}, {}",
+                register_name(rd),
+                register_name(rs1),
+                operand(op, imm)
+            )
         }
         Instr::AluReg { rd, rs1, rs2, .. } | Instr::MulDiv { rd, rs1, rs2, .. } => {
-            write!(f, " {}, {}, {}", register_name(rd), register_name(rs1), register_name(rs2))
+            write!(
+                f,
+                " {}, {}, {}",
+                register_name(rd),
+                register_name(rs1),
+                register_name(rs2)
+            )
         }
         Instr::Ecall => Ok(()),
     }

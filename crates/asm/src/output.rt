@@ -1,6 +1,7 @@
 // The words of a program as they are placed.
 use crate::cursor::Cursor;
 use crate::error::Fault;
+use crate::error::FaultFromRefused;
 use crate::error::Problem;
 use crate::instruction::instruction;
 use crate::names::Mnemonic;
@@ -14,7 +15,6 @@ use crate::text::Statement;
 use std::alloc::AllocError;
 use std::alloc::Global;
 use std::collections::BTreeMap;
-use crate::error::FaultFromRefused;
 
 #[derive(Drop)]
 pub struct Output {
@@ -38,7 +38,12 @@ impl Output {
     }
 
     // Does what a statement says at the cursor, and answers where the next one stands.
-    pub fn add(&mut self, s: Statement<'_>, symbols: &Symbols<'_>, cursor: Cursor) -> Result<Cursor, Fault> {
+    pub fn add(
+        &mut self,
+        s: Statement<'_>,
+        symbols: &Symbols<'_>,
+        cursor: Cursor,
+    ) -> Result<Cursor, Fault> {
         match s.name {
             ".org" | ".data" | ".text" => {}
             ".word" => self.add_words(s, symbols, cursor)?,
@@ -74,7 +79,12 @@ impl Output {
         }
     }
 
-    fn add_words(&mut self, s: Statement<'_>, symbols: &Symbols<'_>, cursor: Cursor) -> Result<(), Fault> {
+    fn add_words(
+        &mut self,
+        s: Statement<'_>,
+        symbols: &Symbols<'_>,
+        cursor: Cursor,
+    ) -> Result<(), Fault> {
         s.expect_some()?;
         for i in 0..s.count() {
             self.place(cursor.on(i), s.value(i, symbols)?)?;

@@ -166,7 +166,13 @@ pub fn pseudo_words(
         }
         Pseudo::Swapped(cond) => {
             s.expect(3)?;
-            branch(cond, s.register(1)?, s.register(0)?, s.offset(2, symbols, pc)?, 2)?
+            branch(
+                cond,
+                s.register(1)?,
+                s.register(0)?,
+                s.offset(2, symbols, pc)?,
+                2,
+            )?
         }
     };
     Ok(Words::one(first))
@@ -180,7 +186,14 @@ fn nop(s: Statement<'_>) -> Result<u32, Fault> {
 fn ret(s: Statement<'_>) -> Result<u32, Fault> {
     s.expect(0)?;
     let offset = 0;
-    word(Instr::Jalr { rd: ZERO, rs1: RA, offset }, 0)
+    word(
+        Instr::Jalr {
+            rd: ZERO,
+            rs1: RA,
+            offset,
+        },
+        0,
+    )
 }
 
 fn operation(op: AluOp, rd: Reg, rs1: Reg, rs2: Reg) -> Result<u32, Fault> {

@@ -32,7 +32,7 @@ pub fn split_line<'a>(line: &'a str) -> Line<'a> {
 }
 
 // The text before a mark, or all of it.
-fn before<'a>(text: &'a str, mark: &str) -> &'a str {
+pub fn before<'a>(text: &'a str, mark: &str) -> &'a str {
     match text.split_once(mark) {
         Some((front, _)) => front,
         None => text,
