@@ -2,9 +2,11 @@
 ghost use Prim.Native.Nat.{ℕ, _+_, _<_, _≤_};
 ghost use mathlib.Core.Path.{_≡_};
 ghost use mathlib.Core.Bool.{true};
-ghost use lib.ListN.{length};
-ghost use Rattle.pins.specs.Ports.{In, in-of, out-of, flagged, sound-out};
-ghost use Rattle.pins.specs.PortWords.{optional, inputs-of, Reads-inputs, flag-of, word-of, kind-of, address-of, value-of, stop-word, done-none, done-one, shown, port-words};
+ghost use lib.ListN.{length, getD};
+ghost use Rattle.std.specs.Options.{Cases};
+ghost use Rattle.isa.specs.Executing.{how};
+ghost use Rattle.pins.specs.Ports.{In, in-of, out-of, req-of, flagged, sound-out};
+ghost use Rattle.pins.specs.PortWords.{optional, inputs-of, Reads-inputs, flag-of, word-of, request-of, kind-of, address-of, value-of, stop-word, done-none, done-one, shown, port-words};
 use isa::execute::Stop;
 
 // What is given in a clock: a word of code, an answer to a request.
@@ -62,6 +64,15 @@ impl Inputs {
         let code = given(ins[0], ins[1]);
         let answer = given(ins[2], ins[3]);
         Some(Inputs { code, answer })
+    }
+
+    // As four words.
+    pub fn words(&self) -> [u32; 4]
+        ensures { λ r. ⌜ inputs-of (in-of r) ≡ now (self .entry) ⌝ }
+    {
+        let (has_code, code) = flag_words(self.code);
+        let (has_answer, answer) = flag_words(self.answer);
+        [has_code, code, has_answer, answer]
     }
 }
 
@@ -122,7 +133,65 @@ fn stop_code(stopped: Option<Stop>) -> Option<u32>
     Some(stop.code())
 }
 
+fn request_of(kind: u32, address: u32, value: u32) -> Option<Request>
+    ensures { λ r. ⌜ request-of r ≡ req-of kind address value ⌝ }
+{
+    match kind {
+        1 => Some(Request::Read { address }),
+        2 => Some(Request::Write { address, value }),
+        _ => None,
+    }
+}
+
+// The instruction whose three words begin at a place.
+fn retired_at(outs: &[u32], place: usize) -> Retired
+    requires { ⌜ place + 3 ≤ length (now outs) ⌝ }
+    ensures { λ r. ⌜ (r .pc ≡ getD (now (outs .entry)) place 0) × (r .reg ≡ getD (now (outs .entry)) (place + 1) 0) × (r .value ≡ getD (now (outs .entry)) (place + 2) 0) ⌝ }
+{
+    Retired {
+        pc: outs[place],
+        reg: outs[place + 1],
+        value: outs[place + 2],
+    }
+}
+
+fn stop_of(code: u32) -> Option<Stop>
+    ensures { λ r. ⌜ Cases r (2 < code) (λ h. how h ≡ code) ⌝ }
+{
+    match code {
+        0 => Some(Stop::EnvCall),
+        1 => Some(Stop::Illegal),
+        2 => Some(Stop::Misaligned),
+        _ => None,
+    }
+}
+
 impl Outputs {
+    // From twenty words; none where they are not what a core can show.
+    pub fn read(outs: &[u32]) -> Option<Outputs> {
+        if outs.len() != 20 || outs[0] > 1 || outs[2] > 2 || outs[5] > 1 || outs[7] > 4 {
+            return None;
+        }
+        let stopped = match given(outs[5], outs[6]) {
+            Some(code) => Some(stop_of(code)?),
+            None => None,
+        };
+        Some(Outputs {
+            want: given(outs[0], outs[1]),
+            request: request_of(outs[2], outs[3], outs[4]),
+            stopped,
+            done: Done {
+                count: outs[7],
+                at: [
+                    retired_at(outs, 8),
+                    retired_at(outs, 11),
+                    retired_at(outs, 14),
+                    retired_at(outs, 17),
+                ],
+            },
+        })
+    }
+
     // Writes the twenty words.
     pub fn write(&self, outs: &mut [u32])
         requires { ⌜ length (now outs) ≡ 20 ⌝ }
