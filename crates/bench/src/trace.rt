@@ -1,0 +1,60 @@
+// Runs that are shown clock by clock.
+use crate::effects::effect_of;
+use crate::failure::Failure;
+use crate::failure::FailureFromAlloc;
+use crate::failure::FailureFromIo;
+use crate::lines::EffectDisplay;
+use crate::lines::Shown;
+use crate::lines::StopDisplay;
+use crate::lines::instruction;
+use crate::session::Clock;
+use crate::session::Session;
+use crate::summary::Summary;
+use reference::memory::Memory;
+
+// Runs until it stops, or up to a number of clocks, and shows the clocks from `from` on.
+pub fn trace(
+    rt: &LibcRuntime,
+    session: &mut Session,
+    from: u64,
+    limit: u64,
+) -> Result<Summary, Failure> {
+    let mut summary = Summary::new();
+    for number in 0..limit {
+        let clock = session.clock()?;
+        summary.add(&clock);
+        if number >= from {
+            show(rt, &session.world.code, &clock)?;
+        }
+        if summary.stopped.is_some() {
+            break;
+        }
+    }
+    Ok(summary)
+}
+
+fn show(rt: &LibcRuntime, code: &Memory, clock: &Clock) -> Result<(), Failure> {
+    let number = clock.number;
+    for retired in clock.done() {
+        let line = instruction(rt.alloc(), *retired, code.get(retired.pc / 4))?;
+        println!(rt, "clock {number:>6}  {line}")?;
+    }
+    show_request(rt, clock)?;
+    if let Some(stop) = clock.outputs.stopped {
+        let stop = Shown(stop);
+        println!(rt, "clock {number:>6}              stopped: {stop}")?;
+    }
+    Ok(())
+}
+
+// Writes and reads of devices.
+fn show_request(rt: &LibcRuntime, clock: &Clock) -> Result<(), Failure> {
+    let number = clock.number;
+    if let Some(request) = clock.outputs.request
+        && let Some(effect) = effect_of(request)
+    {
+        let effect = Shown(effect);
+        println!(rt, "clock {number:>6}              {effect}")?;
+    }
+    Ok(())
+}

@@ -1,0 +1,11 @@
+// Runs a program on the core and prints what is done, clock by clock.
+mod options;
+mod program;
+
+use bench::failure::Failure;
+use bench::failure::report;
+
+fn main(rt: LibcRuntime) -> Result<(), Failure> {
+    let result = program::run(&rt);
+    report(&rt, "run", result)
+}
