@@ -1,9 +1,11 @@
 // A program and the world that it is run in.
+use crate::checker::Checker;
 use crate::failure::Failure;
 use crate::failure::FailureFromAlloc;
 use crate::session::Session;
 use asm::program::Placed;
 use asm::program::Program;
+use reference::machine::Machine;
 use reference::memory::Memory;
 use sim::delay::Delay;
 use sim::devices::Devices;
@@ -32,6 +34,14 @@ impl Setup<'_> {
         let data = memory(heap, &self.program.data)?;
         let world = World::new(heap, code, data, devices, self.delay, self.seed);
         Session::start(heap, self.program.start, world)
+    }
+
+    // The manual, before its first instruction.
+    pub fn checker(&self, heap: Global) -> Result<Checker, AllocError> {
+        let code = memory(heap, &self.program.code)?;
+        let data = memory(heap, &self.program.data)?;
+        let machine = Machine::new(self.program.start, data);
+        Ok(Checker::new(heap, code, machine, self.delay.most()))
     }
 }
 
