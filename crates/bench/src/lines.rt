@@ -22,41 +22,44 @@ pub impl fmt::Display for Word as WordDisplay {
     }
 }
 
-// What an instruction wrote: `t0 = 4 (0x00000004)`, or nothing.
+// Something of another crate, to be shown here.
 #[derive(Clone, Copy)]
-pub struct Wrote {
-    pub reg: u32,
-    pub value: u32,
-}
+pub struct Shown<T>(pub T);
 
-pub impl fmt::Display for Wrote as WroteDisplay {
-    fn fmt<W: fmt::Write>(&self, f: &mut fmt::Formatter<W>) -> fmt::Result {
-        let value = Word(self.value);
-        match self.reg {
-            0 => Ok(()),
-            1..=31 => {
-                let number = self.reg as u8;
-                let name = register_name(Reg { number });
-                write!(f, "{name} = {value}")
-            }
-            reg => write!(f, "x{reg} = {value}"),
-        }
-    }
-}
-
+// An instruction that is done, and the register that it wrote: `0x00000000 t0 = 4 (0x00000004)`.
 pub impl fmt::Display for Shown<Retired> as RetiredDisplay {
     fn fmt<W: fmt::Write>(&self, f: &mut fmt::Formatter<W>) -> fmt::Result {
-        let Retired { pc, reg, value } = self.0;
-        let wrote = Wrote { reg, value };
-        write!(f, "{pc:#010x} {wrote}")
+        let pc = self.0.pc;
+        write!(f, "{pc:#010x}")?;
+        write_register(f, " ", self.0.reg, self.0.value)
     }
 }
 
 pub impl fmt::Display for Shown<Trace> as TraceDisplay {
     fn fmt<W: fmt::Write>(&self, f: &mut fmt::Formatter<W>) -> fmt::Result {
-        let Trace { pc, reg, value } = self.0;
-        let wrote = Wrote { reg, value };
-        write!(f, "{pc:#010x} {wrote}")
+        let pc = self.0.pc;
+        write!(f, "{pc:#010x}")?;
+        write_register(f, " ", self.0.reg, self.0.value)
+    }
+}
+
+// What was written, or nothing where that is no register.
+fn write_register<W: fmt::Write>(
+    f: &mut fmt::Formatter<W>,
+    before: &str,
+    reg: u32,
+    value: u32,
+) -> fmt::Result {
+    let value = Word(value);
+    match reg {
+        0 => Ok(()),
+        1..=31 => {
+            let name = register_name(Reg {
+                number: reg as u8,
+            });
+            write!(f, "{before}{name} = {value}")
+        }
+        _ => write!(f, "{before}x{reg} = {value}"),
     }
 }
 
@@ -84,21 +87,27 @@ pub impl fmt::Display for Shown<Stop> as StopDisplay {
     }
 }
 
-// Something of another crate, to be shown here.
+// What an instruction wrote: `t0 = 4 (0x00000004)`.
 #[derive(Clone, Copy)]
-pub struct Shown<T>(pub T);
+struct Wrote {
+    reg: u32,
+    value: u32,
+}
 
-// `0x00000000  addi t0, zero, 4          t0 = 4 (0x00000004)`: an instruction that is done, and its word.
+impl fmt::Display for Wrote as WroteDisplay {
+    fn fmt<W: fmt::Write>(&self, f: &mut fmt::Formatter<W>) -> fmt::Result {
+        write_register(f, "", self.reg, self.value)
+    }
+}
+
+// An instruction that is done, with its word: `0x00000000  addi t0, zero, 4          t0 = 4 (0x00000004)`.
 pub fn instruction(heap: Global, retired: Retired, word: u32) -> Result<String, AllocError> {
-    let pc = retired.pc;
+    let Retired { pc, reg, value } = retired;
     let listing = Listing { pc, word };
-    if retired.reg == 0 {
+    if reg == 0 {
         return format!(heap, "{pc:#010x}  {listing}");
     }
     let text = listing.to_string(heap)?;
-    let wrote = Wrote {
-        reg: retired.reg,
-        value: retired.value,
-    };
+    let wrote = Wrote { reg, value };
     format!(heap, "{pc:#010x}  {text:<24}  {wrote}")
 }

@@ -65,7 +65,7 @@ pub fn run(rt: &LibcRuntime) -> Result<(), Failure> {
     } = totals;
     println!(
         rt,
-        "{programs} programs, {runs} runs, {clocks} clocks, {instructions} instructions: all agree"
+        "programs {programs}, runs {runs}, clocks {clocks}, instructions {instructions}: all agree"
     )?;
     Ok(())
 }

@@ -1,0 +1,2 @@
+# Goes on for ever: a branch to itself.
+here:   beq     zero, zero, here

@@ -1,0 +1,2 @@
+# A word of noughts is no instruction.
+        .word   0
