@@ -10,3 +10,9 @@ pub mod LsuModel
 pub mod WorkModel
 pub mod ActModel
 pub mod ClockModel
+pub mod Fetched
+pub mod Buffered
+pub mod Requested
+pub mod Invariant
+pub mod AnswerKept
+pub mod WorkKept
