@@ -36,6 +36,7 @@ pub record More (c : Code) (s : S) (n : ℕ) (u : S) (xs : List ℕ) : Type 0 wh
   pub at : At c (more-answers s xs) n (more-answers u xs)
   pub rets : run c s n .rets ≡ run c (more-answers s xs) n .rets
   pub evs : run c s n .evs ≡ run c (more-answers s xs) n .evs
+
 pub more-run : {c : Code} {s u : S} {n : ℕ} (xs : List ℕ) → At c s n u → More c s n u xs
 more-run {c} {s} {u} {n} xs h =
     let e = answer-laws .run c s xs n (λ q. goes-not-stops (h .is) q) in
@@ -82,12 +83,13 @@ module _ (c : Code) (m : Mem) (a : ℕ) (gs : List ℕ) (p : ℕ) (f : Fetching)
         done = h .done ∙ r .rets;
         did = h .did ∙ ap (λ (l : List Ev). l ++ pick (device b) (asks b ∷ []) []) (r .evs);
         works = (h .works .0, h .works .1, q);
-        halts = halts-never g (K ks′ (Answered b x)) g ks b st (h .halts)
+        halts = halts-never g (K ks′ (Answered b x)) g ks b st (h .halts);
       }
 
   -- what an answer does, by the oldest open request
   abbrev after : ℕ → List Open → Load → Storing
   after x ks l = answer x (record { row = row; opens = ks; load = l }) ks
+
   pub record Taken (g : Mem) (x : ℕ) (ks : List Open) (l : Load) (ds : List Due) (told : List ℕ) (rets : List Ret) (evs : List Ev) : Type 0 where
     pub row-is : after x ks l .row ≡ row
     pub tags : Tags (after x ks l .load) g (after x ks l .opens) (pop (some x) ds)
@@ -114,7 +116,7 @@ module _ (c : Code) (m : Mem) (a : ℕ) (gs : List ℕ) (p : ℕ) (f : Fetching)
       record {
         row-is = refl;
         tags = t;
-        runs = subst (λ (ts : List ℕ). Runs c m a (K ks (Answered b x)) g (told ++ ts) rets evs) (sym (told-due g b x d ds e)) (runs-answered (ForLoad ∷ ks) ks b x g told rets evs (answers-due g b x d ds e n) h)
+        runs = subst (λ (ts : List ℕ). Runs c m a (K ks (Answered b x)) g (told ++ ts) rets evs) (sym (told-due g b x d ds e)) (runs-answered (ForLoad ∷ ks) ks b x g told rets evs (answers-due g b x d ds e n) h);
       }
 
 pop-length : (x : ℕ) (ds : List Due) → length (pop (some x) ds) ≤ length ds
@@ -135,5 +137,5 @@ answer-kept c m a k v (some x) r h =
       few = omega (arith, settled-laws .number v, settled-laws .number v′, ap length due-now, pop-length x (dues v), h .few);
       room = subst (λ (l : List Store). length l ≤ 8) (sym (t .row-is)) (h .room);
       runs = subst (λ (g : Mem). Runs c m a (with-storing k d) g (v′ .told) (v .rets) (v .evs)) (sym mem)
-        (subst (λ (ts : List ℕ). Runs c m a (with-storing k d) (final v (k .lsu .row)) ts (v .rets) (v .evs)) (sym (settled-laws .told (some x) v)) (t .runs))
+          (subst (λ (ts : List ℕ). Runs c m a (with-storing k d) (final v (k .lsu .row)) ts (v .rets) (v .evs)) (sym (settled-laws .told (some x) v)) (t .runs));
     }

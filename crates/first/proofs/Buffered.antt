@@ -22,6 +22,7 @@ use Rattle.first.specs.Model.{lookup}
 -- the writes of a row of stores
 abbrev pub write-ev : Store → Ev
 write-ev s = writes (s .address) (s .value)
+
 abbrev pub row-evs : List Store → List Ev
 row-evs [] = []
 row-evs (s ∷ row) = write-ev s ∷ row-evs row
@@ -29,6 +30,7 @@ row-evs (s ∷ row) = write-ev s ∷ row-evs row
 pub row-evs-snoc : (row : List Store) (s : Store) → row-evs (row ++ (s ∷ [])) ≡ row-evs row ++ (write-ev s ∷ [])
 row-evs-snoc [] s = refl
 row-evs-snoc (r ∷ row) s = ap (λ (l : List Ev). write-ev r ∷ l) (row-evs-snoc row s)
+
 pub row-evs-length : (row : List Store) → length (row-evs row) ≡ length row
 row-evs-length [] = refl
 row-evs-length (s ∷ row) = ap suc (row-evs-length row)
@@ -39,9 +41,11 @@ final v row = effects (flushed v) (row-evs row)
 
 pub final-push : (v : View) (row : List Store) (s : Store) → final v (row ++ (s ∷ [])) ≡ effect (final v row) (write-ev s)
 final-push v row s = ap (effects (flushed v)) (row-evs-snoc row s) ∙ effects-append (flushed v) (row-evs row) (write-ev s ∷ [])
+
 -- a store goes from the row to the requests; a load's request changes nothing
 pub final-drain : (v : View) (s : Store) (row : List Store) → final (ask-data (some (writes1 (s .address) (s .value))) v) row ≡ final v (s ∷ row)
 final-drain v s row = ap (λ (m : Mem). effects m (row-evs row)) (settled-laws .flushed-asked (some (writes1 (s .address) (s .value))) v)
+
 pub final-ask : (v : View) (a : ℕ) (row : List Store) → final (ask-data (some (reads a)) v) row ≡ final v row
 final-ask v a row = ap (λ (m : Mem). effects m (row-evs row)) (settled-laws .flushed-asked (some (reads a)) v)
 

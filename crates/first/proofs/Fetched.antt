@@ -65,7 +65,7 @@ want-if-kept c p f ws h true t =
     record {
       chain = rw (drop-snoc (f .stale) ws (f .at) le) (chain-want c p (f .words) (drop (f .stale) ws) (f .at) (h .chain));
       count = simp length-append (omega arith);
-      few = simp length-append (omega arith)
+      few = simp length-append (omega arith);
     }
 want-if-kept c p f ws h false t = h
 

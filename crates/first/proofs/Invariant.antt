@@ -26,6 +26,7 @@ abbrev pub unread : Load → List ℕ
 unread Idle = []
 unread (Waiting a) = []
 unread (Answered a x) = pick (device a) (x ∷ []) []
+
 abbrev pub asked-ev : Load → List Ev
 asked-ev Idle = []
 asked-ev (Waiting a) = pick (device a) (asks a ∷ []) []
@@ -40,6 +41,7 @@ abbrev pub Works : Code → List ℕ → ℕ → Mem → Load → Type 0
 Works c gs p f Idle = Unit {0}
 Works c gs p f (Waiting a) = (r : Reg) × (work gs p (c (p / 4)) ≡ Loads r a)
 Works c gs p f (Answered a x) = (r : Reg) × (work gs p (c (p / 4)) ≡ Loads r a) × (device a ≡ false → x ≡ f (a / 4))
+
 -- it has stopped as the manual does there, with no store waiting and no load at work
 abbrev pub Halts : Code → Model → Mem → Option ℕ → Type 0
 Halts c k f none = Unit {0}

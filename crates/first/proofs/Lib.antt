@@ -16,3 +16,6 @@ pub mod Requested
 pub mod Invariant
 pub mod AnswerKept
 pub mod WorkKept
+pub mod ClockKept
+pub mod RightNow
+pub mod AlwaysRight

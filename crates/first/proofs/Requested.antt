@@ -21,6 +21,7 @@ Acks (Acknowledgment ∷ ks) (any-word ∷ ds) = Acks ks ds
 Acks (Acknowledgment ∷ ks) (from-device ∷ ds) = ⊥
 Acks (Acknowledgment ∷ ks) (that-word y ∷ ds) = ⊥
 Acks (ForLoad ∷ ks) ds = ⊥
+
 -- one is the load's, to be answered with d
 abbrev pub One-load : Due → List Open → List Due → Type 0
 One-load d [] ds = ⊥
@@ -30,6 +31,7 @@ One-load d (Acknowledgment ∷ ks) (from-device ∷ ds) = ⊥
 One-load d (Acknowledgment ∷ ks) (that-word y ∷ ds) = ⊥
 One-load d (ForLoad ∷ ks) [] = ⊥
 One-load d (ForLoad ∷ ks) (e ∷ ds) = (e ≡ d) × Acks ks ds
+
 -- a load that waits is open, and will be answered with the device's word or what memory f holds there
 abbrev pub Tags : Load → Mem → List Open → List Due → Type 0
 Tags Idle f ks ds = Acks ks ds
@@ -45,6 +47,7 @@ acks-store (Acknowledgment ∷ ks) (any-word ∷ ds) h = acks-store ks ds h
 acks-store (Acknowledgment ∷ ks) (from-device ∷ ds) h = absurd h
 acks-store (Acknowledgment ∷ ks) (that-word y ∷ ds) h = absurd h
 acks-store (ForLoad ∷ ks) ds h = absurd h
+
 load-store : (d : Due) (ks : List Open) (ds : List Due) → One-load d ks ds → One-load d (ks ++ (Acknowledgment ∷ [])) (ds ++ (any-word ∷ []))
 load-store d [] ds h = absurd h
 load-store d (Acknowledgment ∷ ks) [] h = absurd h
@@ -53,6 +56,7 @@ load-store d (Acknowledgment ∷ ks) (from-device ∷ ds) h = absurd h
 load-store d (Acknowledgment ∷ ks) (that-word y ∷ ds) h = absurd h
 load-store d (ForLoad ∷ ks) [] h = absurd h
 load-store d (ForLoad ∷ ks) (e ∷ ds) (q, h) = (q, acks-store ks ds h)
+
 pub tags-store : (l : Load) (f : Mem) (ks : List Open) (ds : List Due) → Tags l f ks ds → Tags l f (ks ++ (Acknowledgment ∷ [])) (ds ++ (any-word ∷ []))
 tags-store Idle f ks ds h = acks-store ks ds h
 tags-store (Waiting a) f ks ds h = load-store (due f (reads a)) ks ds h
@@ -77,6 +81,7 @@ acks-count (Acknowledgment ∷ ks) (any-word ∷ ds) h = ap suc (acks-count ks d
 acks-count (Acknowledgment ∷ ks) (from-device ∷ ds) h = absurd h
 acks-count (Acknowledgment ∷ ks) (that-word y ∷ ds) h = absurd h
 acks-count (ForLoad ∷ ks) ds h = absurd h
+
 load-count : (d : Due) (ks : List Open) (ds : List Due) → One-load d ks ds → length ks ≡ length ds
 load-count d [] ds h = absurd h
 load-count d (Acknowledgment ∷ ks) [] h = absurd h
@@ -85,6 +90,7 @@ load-count d (Acknowledgment ∷ ks) (from-device ∷ ds) h = absurd h
 load-count d (Acknowledgment ∷ ks) (that-word y ∷ ds) h = absurd h
 load-count d (ForLoad ∷ ks) [] h = absurd h
 load-count d (ForLoad ∷ ks) (e ∷ ds) h = ap suc (acks-count ks ds (h .1))
+
 pub tags-count : (l : Load) (f : Mem) (ks : List Open) (ds : List Due) → Tags l f ks ds → length ks ≡ length ds
 tags-count Idle f ks ds h = acks-count ks ds h
 tags-count (Waiting a) f ks ds h = load-count (due f (reads a)) ks ds h

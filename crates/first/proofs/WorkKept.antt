@@ -70,8 +70,8 @@ module _ (c : Code) (m : Mem) (a : ℕ) where
           done = ap (λ (l : List Ret). l ++ (t ∷ [])) (h .runs .done) ∙ sym (rets-suc (h .runs .at) q) ∙ ap (λ (j : ℕ). run c s0 j .rets) n;
           did = e ∙ sym (evs-suc (h .runs .at) q) ∙ ap (λ (j : ℕ). run c s0 j .evs) n ∙ sym (append-nil (run c s0 (length (v .rets ++ (t ∷ []))) .evs));
           works = tt;
-          halts = subst (λ (o : Option ℕ). Halts-at c k′ (final v row) o) (sym st) tt
-        }
+          halts = subst (λ (o : Option ℕ). Halts-at c k′ (final v row) o) (sym st) tt;
+        };
       }
 
 -- an instruction that is no load is at work with nothing requested
@@ -81,6 +81,7 @@ is-load (Jumps a) = false
 is-load (Loads r a) = true
 is-load (Stores a x) = false
 is-load (Halts h) = false
+
 no-load : (x y : Outcome) (r : Reg) (b : ℕ) → x ≡ y → x ≡ Loads r b → is-load y ≡ false → ⊥
 no-load x y r b e q n = clash (sym (ap is-load q) ∙ (ap is-load e ∙ n))
 
@@ -101,7 +102,7 @@ ask-evs x y row b false d h = ap (λ (l : List Ev). l ++ row-evs row) (append-ni
 -- a load that was answered: a device's word, or what memory holds
 answered-is : (s : S) (r d x : ℕ) (dv : Bool) → (dv ≡ false → x ≡ s .mem (d / 4)) → s .answers ≡ pick dv (x ∷ []) []
     → pick dv (asked s r d (s .answers)) (wrote s r (s .mem (d / 4)) (after1 s))
-      ≡ goes (record { regs = put (s .regs) r x; pc = add (s .pc) 4; mem = s .mem; answers = [] }) (record { pc = s .pc; reg = r; val = pick (eqb r 0) 0 x }) (pick dv (asks d ∷ []) [])
+    ≡ goes (record { regs = put (s .regs) r x; pc = add (s .pc) 4; mem = s .mem; answers = [] }) (record { pc = s .pc; reg = r; val = pick (eqb r 0) 0 x }) (pick dv (asks d ∷ []) [])
 answered-is s r d x true g e = ap (asked s r d) e
 answered-is s r d x false g e =
     ap (λ (y : ℕ). wrote s r y (after1 s)) (sym (g refl))
@@ -114,10 +115,13 @@ module _ (c : Code) (m : Mem) (a : ℕ) (v : View) where
   module _ (gs : List ℕ) (p : ℕ) (f : Fetching) (row : List Store) (ks : List Open) (w : ℕ) (us : List ℕ) (ws : f .words ≡ w ∷ us) where
     abbrev K : Load → Model
     K l = record { regs = gs; pc = p; fetch = f; lsu = record { row = row; opens = ks; load = l }; stop = none }
+
     abbrev outcome : Outcome
     outcome = work gs p (c (p / 4))
+
     abbrev here : Load → S
     here l = stands-at (K l) (final v row)
+
     -- what the manual does here
     steps : (l : Load) (x : Outcome) → outcome ≡ x → step c (here l) ≡ enact (here l) x
     steps l x e = step-is c (here l) ∙ ap (enact (here l)) e
@@ -125,8 +129,11 @@ module _ (c : Code) (m : Mem) (a : ℕ) (v : View) where
     halt-kept : (s : Stop) → Inv c m a (K Idle) v → outcome ≡ Halts s → (r : List Store) → row ≡ r → Keeps (apply (K Idle) (if-drained r (Halt s)))
     halt-kept s h e [] q =
         record {
-          fetched = h .fetched; tags = h .tags; few = h .few; room = h .room;
-          runs = record { at = h .runs .at; done = h .runs .done; did = h .runs .did; works = tt; halts = (how-few s, steps Idle (Halts s) e, q, refl) }
+          fetched = h .fetched;
+          tags = h .tags;
+          few = h .few;
+          room = h .room;
+          runs = record { at = h .runs .at; done = h .runs .done; did = h .runs .did; works = tt; halts = (how-few s, steps Idle (Halts s) e, q, refl) };
         }
     halt-kept s h e (x ∷ r) q = h
 
@@ -136,9 +143,9 @@ module _ (c : Code) (m : Mem) (a : ℕ) (v : View) where
         let s : Store = record { address = b; value = x } in
         let fp : final v (row ++ (s ∷ [])) ≡ effect (final v row) (writes b x) = final-push v row s in
         retire-kept c m a (K Idle) v w us ws refl (h .tags) h gs (add p 4) (row ++ (s ∷ [])) (record { pc = p; reg = 0; val = 0 }) (writes b x ∷ [])
-          (steps Idle (Stores b x) e ∙ ap (λ (g : Mem). goes (record { regs = gs; pc = add p 4; mem = g; answers = [] }) (record { pc = p; reg = 0; val = 0 }) (writes b x ∷ [])) (sym fp))
-          (ap (λ (l : List Ev). v .evs ++ l) (row-evs-snoc row s) ∙ sym (append-assoc (v .evs) (row-evs row) (writes b x ∷ [])) ∙ ap (λ (l : List Ev). l ++ (writes b x ∷ [])) (h .runs .did ∙ append-nil (run c (first a m (v .told)) (length (v .rets)) .evs)))
-          (omega (arith, length-snoc row s))
+        (steps Idle (Stores b x) e ∙ ap (λ (g : Mem). goes (record { regs = gs; pc = add p 4; mem = g; answers = [] }) (record { pc = p; reg = 0; val = 0 }) (writes b x ∷ [])) (sym fp))
+        (ap (λ (l : List Ev). v .evs ++ l) (row-evs-snoc row s) ∙ sym (append-assoc (v .evs) (row-evs row) (writes b x ∷ [])) ∙ ap (λ (l : List Ev). l ++ (writes b x ∷ [])) (h .runs .did ∙ append-nil (run c (first a m (v .told)) (length (v .rets)) .evs)))
+        (omega (arith, length-snoc row s))
     push-kept b x h e false t = h
 
     ask-kept : (r : Reg) (b : ℕ) → Inv c m a (K Idle) v → outcome ≡ Loads r b → (t : Bool) → (t ≡ true → length ks < 4)
@@ -156,11 +163,13 @@ module _ (c : Code) (m : Mem) (a : ℕ) (v : View) where
           few = omega (arith, length-append (v .datas) (reads b ∷ []), settled-laws .number v);
           room = h .room;
           runs = subst (λ (g : Mem). Runs c m a (record { regs = gs; pc = p; fetch = f; lsu = record { row = row; opens = ks ++ (ForLoad ∷ []); load = Waiting b }; stop = none }) g (v .told) (v .rets) (v′ .evs)) (sym fa)
-            (record {
-              at = h .runs .at; done = h .runs .done;
-              did = ask-evs (v .evs) (run c (first a m (v .told)) (length (v .rets)) .evs) row b (device b) d (h .runs .did);
-              works = (r, e); halts = tt
-            })
+              (record {
+                at = h .runs .at;
+                done = h .runs .done;
+                did = ask-evs (v .evs) (run c (first a m (v .told)) (length (v .rets)) .evs) row b (device b) d (h .runs .did);
+                works = (r, e);
+                halts = tt;
+              });
         }
       where
         due-same : (g h : Mem) (b : ℕ) → (device b ≡ false → g (b / 4) ≡ h (b / 4)) → due g (reads b) ≡ due h (reads b)
@@ -174,8 +183,8 @@ module _ (c : Code) (m : Mem) (a : ℕ) (v : View) where
     answered-kept : (r : Reg) (b d x : ℕ) → Inv c m a (K (Answered d x)) v → outcome ≡ Loads r b → d ≡ b → Keeps (apply (K (Answered d x)) (Write r x (add p 4)))
     answered-kept r b d x h e q =
         retire-kept c m a (K (Answered d x)) v w us ws refl (h .tags) h (put gs (r .number) x) (add p 4) row (record { pc = p; reg = r .number; val = pick (eqb (r .number) 0) 0 x }) (asked-ev (Answered d x))
-          (steps (Answered d x) (Loads r d) (e ∙ ap (Loads r) (sym q)) ∙ answered-is (here (Answered d x)) (r .number) d x (device d) (h .runs .works .2) refl)
-          (h .runs .did) (h .room)
+        (steps (Answered d x) (Loads r d) (e ∙ ap (Loads r) (sym q)) ∙ answered-is (here (Answered d x)) (r .number) d x (device d) (h .runs .works .2) refl)
+        (h .runs .did) (h .room)
 
     device-kept : (r : Reg) (b : ℕ) → Inv c m a (K Idle) v → outcome ≡ Loads r b → device b ≡ true → (t : Bool) → (t ≡ true → length ks < 4) → (rr : List Store) → row ≡ rr → Keeps (apply (K Idle) (pick t (if-drained rr (Ask b)) Wait))
     device-kept r b h e dv true t [] q = ask-kept r b h e true t (λ n. absurd (clash (sym dv ∙ n))) (λ n. q)
@@ -189,10 +198,10 @@ module _ (c : Code) (m : Mem) (a : ℕ) (v : View) where
     data-kept r b h e dv t lt (some x) q =
         let is-x : final v row (b / 4) ≡ x = lookup-right (flushed v) row b dv ∙ ap (λ (o : Option ℕ). opt o (flushed v (b / 4)) (λ x. x)) q in
         retire-kept c m a (K Idle) v w us ws refl (h .tags) h (put gs (r .number) x) (add p 4) row (record { pc = p; reg = r .number; val = pick (eqb (r .number) 0) 0 x }) []
-          (steps Idle (Loads r b) e
-          ∙ ap (λ (d : Bool). pick d (asked (here Idle) (r .number) b []) (wrote (here Idle) (r .number) (final v row (b / 4)) (add p 4))) dv
-          ∙ ap (λ (y : ℕ). wrote (here Idle) (r .number) y (add p 4)) is-x)
-          (h .runs .did) (h .room)
+        (steps Idle (Loads r b) e
+        ∙ ap (λ (d : Bool). pick d (asked (here Idle) (r .number) b []) (wrote (here Idle) (r .number) (final v row (b / 4)) (add p 4))) dv
+        ∙ ap (λ (y : ℕ). wrote (here Idle) (r .number) y (add p 4)) is-x)
+        (h .runs .did) (h .room)
 
     load-kept : (r : Reg) (b : ℕ) (l : Load) → Inv c m a (K l) v → outcome ≡ Loads r b → Keeps (apply (K l) (loading (K l) r b l))
     load-kept r b (Waiting d) h e = h
@@ -224,11 +233,13 @@ module _ (c : Code) (m : Mem) (a : ℕ) (v : View) where
 
   abbrev with-stop : Model → Option ℕ → Model
   with-stop k o = record { regs = k .regs; pc = k .pc; fetch = k .fetch; lsu = k .lsu; stop = o }
+
   word-kept : (k : Model) → Inv c m a (with-stop k none) v → (xs : List ℕ) → k .fetch .words ≡ xs → Keeps (apply (with-stop k none) (work-on (with-stop k none) xs))
   word-kept k h [] q = h
   word-kept k h (w ∷ us) q =
       act-kept (k .regs) (k .pc) (k .fetch) (k .lsu .row) (k .lsu .opens) w us q (k .lsu .load) h (work (k .regs) (k .pc) w)
-        (ap (work (k .regs) (k .pc)) (sym (at-word c (k .pc) (k .fetch .words) _ _ w us q (h .fetched .chain))))
+      (ap (work (k .regs) (k .pc)) (sym (at-word c (k .pc) (k .fetch .words) _ _ w us q (h .fetched .chain))))
+
   pub work-kept : (k : Model) → Inv c m a k v → Keeps (apply k (decide k))
   work-kept k h = by (k .stop) h
     where
