@@ -1,4 +1,5 @@
 pub mod Examples
+pub mod Beginnings
 pub mod Histories
 pub mod Queues
 pub mod ViewClock
@@ -7,3 +8,4 @@ pub mod Waiting
 pub mod Reaching
 pub mod Invariants
 pub mod Calls
+pub mod Progressing

@@ -1,6 +1,6 @@
 -- Where a core can come: a history of two parts goes through a state between them.
-use mathlib.Core.Path.{_≡_, refl, sym, subst}
-use mathlib.Core.List.{List, [], _∷_, _++_, append-nil, append-assoc}
+use mathlib.Core.Path.{subst}
+use mathlib.Core.List.{[], _∷_, _++_, append-nil, append-assoc}
 use Prim.Native.Nat.{ℕ}
 use Rattle.isa.specs.Manual.{Code, Mem}
 use Rattle.pins.specs.Ports.{In}
@@ -22,8 +22,8 @@ module _ {State : Type 0} {k : Mealy State} {c : Code} {m : Mem} where
   split a b s (x ∷ h) g t p q = by s x p q (λ b s p q. split a b s h g t p q)
     where
       by : (s : State) (x : Io) → Reach k c m a b s → Trail k c m b s (x ∷ (h ++ g)) t
-        → ((b : Hist) (s : State) → Reach k c m a b s → Trail k c m b s (h ++ g) t → Through k c m a (b ++ h) g t)
-        → Through k c m a (b ++ (x ∷ h)) g t
+          → ((b : Hist) (s : State) → Reach k c m a b s → Trail k c m b s (h ++ g) t → Through k c m a (b ++ h) g t)
+          → Through k c m a (b ++ (x ∷ h)) g t
       by s x p (passed i r q) rest = subst (λ z. Through k c m a z g t) (append-assoc b (clock-io k s i ∷ []) h) (rest _ _ (clocked i p r) q)
 
   join : {a : ℕ} {h g : Hist} {s t : State} → Reach k c m a h s → Trail k c m h s g t → Reach k c m a (h ++ g) t
@@ -32,6 +32,6 @@ module _ {State : Type 0} {k : Mealy State} {c : Code} {m : Mem} where
 
 pub reach-laws : (State : Type 0) → Reach-laws State
 reach-laws State = record {
-    through = λ {k} {c} {m} {a} h g {t} p. split a [] (k .first a) h g t started (reach-trail p);
-    join = λ p q. join p q
-  }
+  through = λ {k} {c} {m} {a} h g {t} p. split a [] (k .first a) h g t started (reach-trail p);
+  join = λ p q. join p q;
+}

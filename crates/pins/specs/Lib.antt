@@ -7,4 +7,6 @@ pub mod History
 pub mod View
 pub mod Settled
 pub mod Waits
+pub mod Fronts
 pub mod Reach
+pub mod Progress
