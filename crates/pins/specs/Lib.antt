@@ -8,5 +8,6 @@ pub mod View
 pub mod Settled
 pub mod Waits
 pub mod Fronts
+pub mod Beside
 pub mod Reach
 pub mod Progress

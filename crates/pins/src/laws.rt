@@ -4,6 +4,7 @@ ghost use Rattle.pins.specs.View.{View-laws};
 ghost use Rattle.pins.specs.Settled.{Settled-laws};
 ghost use Rattle.pins.specs.Waits.{Wait-laws};
 ghost use Rattle.pins.specs.Fronts.{Front-laws};
+ghost use Rattle.pins.specs.Beside.{Beside-laws};
 ghost use Rattle.pins.specs.Reach.{Reach-laws, Call-laws};
 ghost use Rattle.pins.specs.Progress.{Progress-laws};
 
@@ -42,7 +43,14 @@ pub fn waits() -> bool
     true
 }
 
-// Of any core with states S: a history determines the state, and its parts go through states.
+// The manual beside what the ports have shown: what a device's answer and a retired instruction do to both.
+pub fn manual_beside() -> bool
+    ensures { λ _. ⌜ Beside-laws ⌝ }
+{
+    true
+}
+
+// Of any core with states S: a history of two parts goes through a state between them.
 pub fn reach<S>() -> bool
     ensures { λ _. ⌜ Reach-laws S ⌝ }
 {
