@@ -60,7 +60,8 @@ module _ {State : Type 0} {k : Mealy State} {c : Code} {m : Mem} {a : ℕ} (l : 
       }
 
   module _ (rank : ℕ → State → O → ℕ) (v : Retires k rank) where
-    stop-stays : {h g : Hist} {s t : State} → Reach k c m a h s → Trail k c m h s g t → Prompt l m (h ++ g) → (j : ℕ) → stopped h ≡ some j → (n : ℕ) × (stopped (h ++ g) ≡ some n)
+    stop-stays : {h g : Hist} {s t : State} → Reach k c m a h s → Trail k c m h s g t → Prompt l m (h ++ g) → (j : ℕ) → stopped h ≡ some j
+        → (n : ℕ) × (stopped (h ++ g) ≡ some n)
     stop-stays p arrived y j e = (j, rw append-nil e)
     stop-stays {h} p (passed {g = g} {s = s} i r q) y j e =
         let x = clock-io k s i in
@@ -89,7 +90,8 @@ module _ {State : Type 0} {k : Mealy State} {c : Code} {m : Mem} {a : ℕ} (l : 
         → (length (rets h) < length (rets (h ++ g))) ⊎ ((j : ℕ) × (stopped (h ++ g) ≡ some j))
     first-half h g p y long = by (rets g) refl (stopped (h ++ g)) refl
       where
-        by : (rs : List Ret) → rets g ≡ rs → (o : Opt ℕ) → stopped (h ++ g) ≡ o → (length (rets h) < length (rets (h ++ g))) ⊎ ((j : ℕ) × (stopped (h ++ g) ≡ some j))
+        by : (rs : List Ret) → rets g ≡ rs → (o : Opt ℕ) → stopped (h ++ g) ≡ o
+            → (length (rets h) < length (rets (h ++ g))) ⊎ ((j : ℕ) × (stopped (h ++ g) ≡ some j))
         by (r ∷ rs) e o f =
             let n = ap length (history-laws .rets-append h g) ∙ length-append (rets h) (rets g) in
             let u = ap length e in
@@ -103,8 +105,8 @@ module _ {State : Type 0} {k : Mealy State} {c : Code} {m : Mem} {a : ℕ} (l : 
 
   module _ (owed : State → ℕ) (rank : ℕ → State → O → ℕ → ℕ) (v : Drains k owed rank) where
     -- the first j of what is owed are shown within their rank
-    drained : {h g : Hist} {s t : State} → Reach k c m a h s → Trail k c m h s g t → Prompt l m (h ++ g) → (j : ℕ) → j ≤ owed s → rank l s (outside m h) j < length g
-        → j ≤ length (evs g)
+    drained : {h g : Hist} {s t : State} → Reach k c m a h s → Trail k c m h s g t → Prompt l m (h ++ g) → (j : ℕ)
+        → j ≤ owed s → rank l s (outside m h) j < length g → j ≤ length (evs g)
     drained p q y zero n f = omega arith
     drained p arrived y (suc j) n f = absurd (omega arith)
     drained {h} p (passed {g = g} {s = s} i r q) y (suc j) n f =
@@ -129,7 +131,8 @@ module _ {State : Type 0} {k : Mealy State} {c : Code} {m : Mem} {a : ℕ} (l : 
             let all = rest (suc j) (omega arith) (rw (history-laws .outside-clock m h (clock-io k s i)) (omega arith)) in
             rw length-append (omega arith)
 
-    second-half : (h g : Hist) {t : State} → Reach k c m a (h ++ g) t → Prompt l m (h ++ g) → 64 + 16 * l ≤ length g → length (here c m a h .evs) ≤ length (evs (h ++ g))
+    second-half : (h g : Hist) {t : State} → Reach k c m a (h ++ g) t → Prompt l m (h ++ g) → 64 + 16 * l ≤ length g
+        → length (here c m a h .evs) ≤ length (evs (h ++ g))
     second-half h g p y long =
         let b = reach-laws State .through h g p in
         let z = point h g (b .between) (b .reach) y in

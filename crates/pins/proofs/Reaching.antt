@@ -9,7 +9,8 @@ use Rattle.pins.specs.Reach.{Mealy, clock-io, Reach, started, clocked, Trail, 
 
 module _ {State : Type 0} {k : Mealy State} {c : Code} {m : Mem} where
   -- one clock more at the end of a trail
-  trail-clock : {h g : Hist} {s t : State} (i : In) → Trail k c m h s g t → Right-in c m (h ++ g) i → Trail k c m h s (g ++ (clock-io k t i ∷ [])) (k .next t i)
+  trail-clock : {h g : Hist} {s t : State} (i : In) → Trail k c m h s g t → Right-in c m (h ++ g) i
+      → Trail k c m h s (g ++ (clock-io k t i ∷ [])) (k .next t i)
   trail-clock i arrived r = passed i (rw append-nil at r) arrived
   trail-clock {h} i (passed {g = g} {s = s} j q p) r = passed j q (trail-clock i p (rw append-assoc r))
 

@@ -50,7 +50,8 @@ module _ {State : Type 0} {k : Mealy State} {l : ℕ} (x : Clock k l) where
 -- a rank that falls in each clock in which nothing is retired and the core has not stopped; and once stopped it stays so
 pub record Retires {State : Type 0} (k : Mealy State) (rank : ℕ → State → O → ℕ) : Type 0 where
   pub bounded : {l : ℕ} (p : Point k l) → rank l (p .state) (around p) ≤ 63 + 16 * l
-  pub falls : {l : ℕ} (x : Clock k l) → shown x .rets ≡ [] → shown x .stopped ≡ none → rank l (next-state x) (next-around x) < rank l (x .at .state) (around (x .at))
+  pub falls : {l : ℕ} (x : Clock k l) → shown x .rets ≡ [] → shown x .stopped ≡ none
+      → rank l (next-state x) (next-around x) < rank l (x .at .state) (around (x .at))
   pub stays : {l : ℕ} (x : Clock k l) (j : ℕ) → stopped (x .at .hist) ≡ some j → (n : ℕ) × (shown x .stopped ≡ some n)
 
 -- how many effects of what is retired are still to be shown, of which a clock takes off those that it shows
@@ -72,7 +73,8 @@ pub record Drains-each {State : Type 0} (k : Mealy State) (owed : State → ℕ)
   pub owes : Owes k owed
   pub few : {l : ℕ} (p : Point k l) → owed (p .state) ≤ 8
   pub bounded : {l : ℕ} (p : Point k l) → rank l (p .state) (around p) ≤ 7 + 2 * l
-  pub waits : {l : ℕ} (x : Clock k l) → 0 < owed (x .at .state) → effects-shown x ≡ 0 → rank l (next-state x) (next-around x) < rank l (x .at .state) (around (x .at))
+  pub waits : {l : ℕ} (x : Clock k l) → 0 < owed (x .at .state) → effects-shown x ≡ 0
+      → rank l (next-state x) (next-around x) < rank l (x .at .state) (around (x .at))
 
 -- the first j, each of the later ones with its full time
 abbrev pub rank-each : {State : Type 0} → (ℕ → State → O → ℕ) → ℕ → State → O → ℕ → ℕ
