@@ -87,8 +87,12 @@ pub record Clocked-to (o : O) (x : Io) : Type 0 where
 
 pub clocked-to : (o : O) (x : Io) → Clocked-to o x
 clocked-to o x = record {
-  codes = wanted-is (x .out1 .code) _ ∙ ap (push (Option·map new (x .out1 .code))) (older-is _ ∙ ap (map waited) (data-codes _ (x .in1 .data1) (o .datas) ∙ code-by-is (x .in1 .code) (o .codes)));
-  datas = wished-is (x .out1 .data1) _ ∙ ap (push (Option·map new1 (x .out1 .data1))) (older1-is _ ∙ ap (map waited1) (data-datas _ (x .in1 .data1) (o .datas) refl));
+  codes =
+      wanted-is (x .out1 .code) _
+      ∙ ap (push (Option·map new (x .out1 .code))) (older-is _ ∙ ap (map waited) (data-codes _ (x .in1 .data1) (o .datas) ∙ code-by-is (x .in1 .code) (o .codes)));
+  datas =
+      wished-is (x .out1 .data1) _
+      ∙ ap (push (Option·map new1 (x .out1 .data1))) (older1-is _ ∙ ap (map waited1) (data-datas _ (x .in1 .data1) (o .datas) refl));
   mem = data-mem _ (x .in1 .data1) (o .datas);
   told = data-told _ (x .in1 .data1) (o .datas);
 }

@@ -9,7 +9,7 @@ use Rattle.isa.specs.Manual.{Code, Mem, Ret, Ev}
 use Rattle.pins.specs.Ports.{In, Req, reads, writes1}
 use Rattle.pins.specs.Outside.{Io, Hist, Want, Wish, O, after, outside, ev-of, Code-right, Read-right, Data-right, Right-in}
 use Rattle.pins.specs.Says.{Right}
-use Rattle.pins.specs.View.{View, addrs, reqs, view, pop, push, evs-then, rets-then, take-in, add-out, ones, View-laws}
+use Rattle.pins.specs.View.{View, addrs, reqs, view, pop, push, evs-then, rets-then, clock-view, ones, View-laws}
 use Rattle.pins.specs.View.{Code-allowed, Read-allowed, Data-allowed, Allowed, Right-view}
 use Rattle.pins.proofs.Queues.{map-pop, map-push, option-same, waited, waited1, new, new1, clocked-to}
 use Rattle.pins.proofs.Histories.{history-laws, by-clocks}
@@ -39,7 +39,7 @@ rets-more : (ts rs : List Ret) → rs ++ ts ≡ rets-then ts rs
 rets-more [] rs = append-nil rs
 rets-more (t ∷ ts) rs = sym (append-assoc rs (t ∷ []) ts) ∙ rets-more ts (rs ++ (t ∷ []))
 
-one-clock : (m : Mem) (h : Hist) (x : Io) → view m (h ++ (x ∷ [])) ≡ add-out (x .out1) (take-in (x .in1) (view m h))
+one-clock : (m : Mem) (h : Hist) (x : Io) → view m (h ++ (x ∷ [])) ≡ clock-view x (view m h)
 one-clock m h x = λ i. record {
   codes = (ap (λ (o : O). addrs (o .codes)) e ∙ codes-clock (outside m h) x) i;
   datas = (ap (λ (o : O). reqs (o .datas)) e ∙ datas-clock (outside m h) x) i;
@@ -113,5 +113,5 @@ view-laws = record {
 }
 
 -- what a clock keeps of a view holds after every history
-pub by-views : (m : Mem) (P : View → Type 0) → P (view m []) → ((v : View) (x : Io) → P v → P (add-out (x .out1) (take-in (x .in1) v))) → (h : Hist) → P (view m h)
+pub by-views : (m : Mem) (P : View → Type 0) → P (view m []) → ((v : View) (x : Io) → P v → P (clock-view x v)) → (h : Hist) → P (view m h)
 by-views m P start clock h = by-clocks (λ g. P (view m g)) start (λ g x p. subst P (sym (one-clock m g x)) (clock (view m g) x p)) h

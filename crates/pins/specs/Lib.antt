@@ -8,4 +8,7 @@ pub mod History
 pub mod View
 pub mod Settled
 pub mod Waits
+pub mod Fronts
+pub mod Beside
 pub mod Reach
+pub mod Progress
