@@ -19,3 +19,6 @@ pub mod WorkKept
 pub mod ClockKept
 pub mod RightNow
 pub mod AlwaysRight
+pub mod Left
+pub mod CodeFalls
+pub mod DataFalls
