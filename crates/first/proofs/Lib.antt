@@ -22,3 +22,4 @@ pub mod AlwaysRight
 pub mod Left
 pub mod CodeFalls
 pub mod DataFalls
+pub mod RankFalls
