@@ -18,6 +18,7 @@ use Rattle.first.proofs.Left.{Asked-for, Young, older, left, older-length, you
 abbrev pub if-full : Bool → ℕ → ℕ
 if-full true n = n
 if-full false n = 0
+
 abbrev pub code-rank : ℕ → Fetching → List ℕ → ℕ
 code-rank l f q = left l (f .stale) q + if-full (eqb (f .stale) 4) (left l 0 q)
 
@@ -47,6 +48,7 @@ module _ (l : ℕ) (f : Fetching) (q : List ℕ) (ct : f .stale + f .coming ≡ 
       stale-same : (b : Bool) → want-if f b .fetch .stale ≡ f .stale
       stale-same true = refl
       stale-same false = refl
+
   -- none is, and there is room: one is wanted now
   none-coming : f .coming ≡ 0 → f .stale < 4 → code-rank l (want-if f true .fetch) (later true) < code-rank l f q
   none-coming h r =
@@ -55,6 +57,7 @@ module _ (l : ℕ) (f : Fetching) (q : List ℕ) (ct : f .stale + f .coming ≡ 
       let nw : left l (f .stale) (older q ++ (0 ∷ [])) ≡ suc l - 0 = rw is (left-new l 0 (older q)) in
       let ps : left l (f .stale) q ≡ l + 2 = left-past l (f .stale) q (omega arith) in
       rw (ne, nw, ps) (omega arith)
+
   -- none is, and there is no room: the oldest is older by a clock
   all-stale : f .coming ≡ 0 → f .stale ≡ 4 → Young l (older q) → code-rank l f (older q) < code-rank l f q
   all-stale h r y =
@@ -62,6 +65,7 @@ module _ (l : ℕ) (f : Fetching) (q : List ℕ) (ct : f .stale + f .coming ≡ 
       let ps′ : left l (f .stale) (older q) ≡ l + 2 = left-past l (f .stale) (older q) (omega (arith, older-length q)) in
       let ee : eqb (f .stale) 4 ≡ true = eq-eqb (f .stale) 4 r in
       rw (ee, ps, ps′) (omega (arith, left-older l 0 q (omega arith) y))
+
   falls-if : (n : ℕ) → f .coming ≡ n → (b : Bool) → (b ≡ true → f .stale + f .coming < 4) → (b ≡ false → f .coming ≡ 0 → 4 ≤ f .stale) → Young l (later b) → code-rank l (want-if f b .fetch) (later b) < code-rank l f q
   falls-if (suc n) e b t u y = one-coming (omega arith) b y
   falls-if zero e true t u y = none-coming e (omega (arith, t refl))
@@ -72,9 +76,9 @@ module _ (l : ℕ) (f : Fetching) (q : List ℕ) (ct : f .stale + f .coming ≡ 
       let ahead = ltb (length (f .words) + f .coming) 2 in
       let few = ltb (f .stale + f .coming) 4 in
       falls-if (f .coming) refl (ahead && few)
-        (λ t. ltb-true (f .stale + f .coming) 4 (both-right ahead few t))
-        (λ t z. omega (arith, ltb-false (f .stale + f .coming) 4 (sym (ap (λ b. b && few) (lt-ltb (length (f .words) + f .coming) 2 (omega arith))) ∙ t)))
-        y
+      (λ t. ltb-true (f .stale + f .coming) 4 (both-right ahead few t))
+      (λ t z. omega (arith, ltb-false (f .stale + f .coming) 4 (sym (ap (λ b. b && few) (lt-ltb (length (f .words) + f .coming) 2 (omega arith))) ∙ t)))
+      y
 
 -- a whole clock, while no word is there after its answer
 took-some : (x : ℕ) (f : Fetching) (n : ℕ) → f .coming ≡ n → 0 < f .coming → length (took-use x f n .words) ≡ 0 → ⊥
@@ -88,7 +92,7 @@ took-falls l x f (suc n) g q s ct fw e y =
     let r = want-falls l (took x f (suc n)) q (omega arith) (omega arith) e y in
     let ne : eqb n 4 ≡ false = ne-eqb n 4 (λ e. omega arith) in
     let r′ : code-rank l (want (took x f (suc n)) .fetch) (push (age0 (want (took x f (suc n)) .want)) (older q)) < left l n q + 0 =
-      subst (λ (b : Bool). code-rank l (want (took x f (suc n)) .fetch) (push (age0 (want (took x f (suc n)) .want)) (older q)) < left l n q + if-full b (left l 0 q)) ne r in
+    subst (λ (b : Bool). code-rank l (want (took x f (suc n)) .fetch) (push (age0 (want (took x f (suc n)) .want)) (older q)) < left l n q + if-full b (left l 0 q)) ne r in
     rw s (omega arith)
 
 pub code-falls : (l : ℕ) (f : Fetching) (i : Option ℕ) (q : List ℕ) → f .stale + f .coming ≡ length q → length q ≤ 4 → Asked-for i q → length (take-code i f .words) ≡ 0

@@ -23,3 +23,5 @@ pub mod Left
 pub mod CodeFalls
 pub mod DataFalls
 pub mod RankFalls
+pub mod StoresOut
+pub mod GoesOn

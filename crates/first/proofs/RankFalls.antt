@@ -22,12 +22,14 @@ use Rattle.first.proofs.DataFalls.{amount, data-rank, to-ask-most, less-open, 
 abbrev pub rank-of : ℕ → List ℕ → Model → List ℕ → List ℕ → ℕ
 rank-of l [] k qc qd = 14 * (l + 2) + code-rank l (k .fetch) qc
 rank-of l (w ∷ ws) k qc qd = data-rank l (k .lsu) qd
+
 abbrev pub rank : ℕ → Model → List ℕ → List ℕ → ℕ
 rank l k qc qd = rank-of l (k .fetch .words) k qc qd
 
 rank-without : (l : ℕ) (ws : List ℕ) (k : Model) (qc qd : List ℕ) → length ws ≡ 0 → rank-of l ws k qc qd ≡ 14 * (l + 2) + code-rank l (k .fetch) qc
 rank-without l [] k qc qd e = refl
 rank-without l (w ∷ ws) k qc qd e = absurd (omega arith)
+
 rank-with : (l : ℕ) (ws : List ℕ) (k : Model) (qc qd : List ℕ) → (length ws ≡ 0 → ⊥) → rank-of l ws k qc qd ≡ data-rank l (k .lsu) qd
 rank-with l [] k qc qd e = absurd (e refl)
 rank-with l (w ∷ ws) k qc qd e = refl
@@ -45,6 +47,7 @@ data-most l k qc qd h =
     let p = to-ask-most (k .lsu .load) in
     let am : amount (k .lsu) ≤ 13 = omega (arith, h .opens, h .few-datas, h .room) in
     omega (arith, mul-le-mul-right (l + 2) am, left-most l 0 qd)
+
 pub rank-most : (l : ℕ) (k : Model) (qc qd : List ℕ) → Bounded k qc qd → rank l k qc qd ≤ 16 * (l + 2)
 rank-most l k qc qd h = by (k .fetch .words)
   where
@@ -60,16 +63,20 @@ wait-without k e = by (k .stop) (k .fetch .words) e
     by none [] e = refl
     by none (w ∷ ws) e = absurd (omega arith)
     by (some j) ws e = refl
+
 -- words come, and only the instruction at work takes one
 want-words : (f : Fetching) (b : Bool) → want-if f b .fetch .words ≡ f .words
 want-words f true = refl
 want-words f false = refl
+
 use-grows : (x : ℕ) (f : Fetching) (n : ℕ) → length (took-use x f n .words) ≡ 0 → length (f .words) ≡ 0
 use-grows x f zero e = e
 use-grows x f (suc n) e = let q = length-append (f .words) (x ∷ []) in omega arith
+
 took-grows : (x : ℕ) (f : Fetching) (n : ℕ) → length (took x f n .words) ≡ 0 → length (f .words) ≡ 0
 took-grows x f zero e = use-grows x f (f .coming) e
 took-grows x f (suc n) e = e
+
 code-grows : (i : Option ℕ) (f : Fetching) → length (take-code i f .words) ≡ 0 → length (f .words) ≡ 0
 code-grows none f e = e
 code-grows (some x) f e = took-grows x f (f .stale) e
@@ -79,8 +86,10 @@ module _ (l : ℕ) (k : Model) (i : In) (qc qd : List ℕ) (h : Bounded k qc qd)
     (busy : Busy (taken k i .lsu .load) (taken k i .lsu .opens)) (rc : Asked-for (i .code) qc) (rd : Asked-for (i .data1) qd) where
   abbrev qc′ : Clock → List ℕ
   qc′ n = aged (i .code) (age0 (n .out .code)) qc
+
   abbrev qd′ : Clock → List ℕ
   qd′ n = aged (i .data1) (age0 (n .out .data1)) qd
+
   abbrev Falls : Clock → Type 0
   Falls n = rank l (n .core) (qc′ n) (qd′ n) < rank l k qc qd
 
@@ -88,20 +97,22 @@ module _ (l : ℕ) (k : Model) (i : In) (qc qd : List ℕ) (h : Bounded k qc qd)
   falls-waiting : length (k .fetch .words) ≡ 0 → length (take-code (i .code) (k .fetch) .words) ≡ 0 → Young l (qc′ (model-next k i)) → Falls (model-next k i)
   falls-waiting e e′ y =
       subst (λ (n : Clock). Young l (qc′ n) → Falls n) (ap (λ (x : Action). ending (latched (i .code) (apply (taken k i) x))) (sym (wait-without (taken k i) e)))
-        (λ y.
-          let f = take-code (i .code) (k .fetch) in
-          let n = ending (latched (i .code) (apply (taken k i) Wait)) in
-          let none : length (want f .fetch .words) ≡ 0 = ap length (want-words f _) ∙ e′ in
-          let r = code-falls l (k .fetch) (i .code) qc (h .codes) (h .few-codes) rc e′ y in
-          rw (rank-without l (want f .fetch .words) (n .core) (qc′ n) (qd′ n) none, rank-without l (k .fetch .words) k qc qd e) (omega arith))
-        y
+      (λ y.
+      let f = take-code (i .code) (k .fetch) in
+      let n = ending (latched (i .code) (apply (taken k i) Wait)) in
+      let none : length (want f .fetch .words) ≡ 0 = ap length (want-words f _) ∙ e′ in
+      let r = code-falls l (k .fetch) (i .code) qc (h .codes) (h .few-codes) rc e′ y in
+      rw (rank-without l (want f .fetch .words) (n .core) (qc′ n) (qd′ n) none, rank-without l (k .fetch .words) k qc qd e) (omega arith))
+      y
+
   -- one comes
   falls-coming : length (k .fetch .words) ≡ 0 → (length (take-code (i .code) (k .fetch) .words) ≡ 0 → ⊥) → Young l qc → Bounded (model-next k i .core) (qc′ (model-next k i)) (qd′ (model-next k i)) → Falls (model-next k i)
   falls-coming e n y b =
       let n′ = model-next k i in
       let ww : n′ .core .fetch .words ≡ take-code (i .code) (k .fetch) .words = want-words _ _ ∙ ap (λ (x : Action). take-code (i .code) (apply (taken k i) x .core .fetch) .words) (wait-without (taken k i) e) in
       rw (rank-with l (n′ .core .fetch .words) (n′ .core) (qc′ n′) (qd′ n′) (λ z. n (sym (ap length ww) ∙ z)), rank-without l (k .fetch .words) k qc qd e)
-        (omega (arith, left-some l (k .fetch .stale) qc y, data-most l (n′ .core) (qc′ n′) (qd′ n′) b))
+      (omega (arith, left-some l (k .fetch .stale) qc y, data-most l (n′ .core) (qc′ n′) (qd′ n′) b))
+
   -- one is at work: what it waits for falls
   less : (ws : List ℕ) → amount (taken k i .lsu) * (l + 2) + left l 0 (pop (i .data1) qd) ≤ rank-of l ws k qc qd
   less [] =
@@ -109,6 +120,7 @@ module _ (l : ℕ) (k : Model) (i : In) (qc qd : List ℕ) (h : Bounded k qc qd)
       let am : amount (taken k i .lsu) ≤ 13 = omega (arith, t .opens, t .few-datas, t .room) in
       omega (arith, mul-le-mul-right (l + 2) am, left-most l 0 (pop (i .data1) qd))
   less (w ∷ ws) = less-open l (i .data1) (k .lsu) qd rd (h .opens)
+
   falls-working : (length (k .fetch .words) ≡ 0 → ⊥) → model-next k i .out .rets ≡ [] → model-next k i .core .stop ≡ none → Young l (qd′ (model-next k i)) → Falls (model-next k i)
   falls-working n u v y =
       let n′ = model-next k i in
