@@ -6,12 +6,7 @@ mod stores;
 mod words;
 mod work;
 
-ghost use Prim.Native.Nat.{ℕ, _<_};
-ghost use mathlib.Core.Path.{_≡_};
-ghost use mathlib.Core.Logic.{_↔_};
-ghost use lib.ListN.{length};
-ghost use Rattle.pins.specs.declared.Started.the-variants.{Few};
-ghost use Rattle.pins.specs.Says.{StartedSays, ClockedSays};
+ghost use Rattle.pins.specs.Says.{StartedPost, ClockedPost};
 ghost use Rattle.first.specs.Stands.{Stands};
 use pins::Clocked;
 use pins::Started;
@@ -21,8 +16,7 @@ use words::LENT;
 
 // Makes the words a core that begins at `address`, to which nothing has happened yet; fewer than 65,536 are too few.
 pub fn start(address: u32, core: &mut [u32]) -> Started
-    ensures says { λ r. ⌜ StartedSays Stands address (now (core .entry)) (now (core .exit)) r ⌝ }
-    ensures few { λ r. ⌜ (length (now (core .entry)) < 65536) ↔ (r ≡ Few) ⌝ }
+    ensures { λ r. ⌜ StartedPost Stands address (now (core .entry)) (now (core .exit)) r ⌝ }
 {
     if core.len() < LENT {
         return Started::Few;
@@ -33,7 +27,7 @@ pub fn start(address: u32, core: &mut [u32]) -> Started
 
 // One clock: four words in, twenty out.
 pub fn clock(core: &mut [u32], ins: &[u32], outs: &mut [u32]) -> Clocked
-    ensures { λ r. ⌜ ClockedSays Stands (now (core .entry)) (now (core .exit)) (now (ins .entry)) (now (outs .entry)) (now (outs .exit)) r ⌝ }
+    ensures { λ r. ⌜ ClockedPost Stands (now (core .entry)) (now (core .exit)) (now (ins .entry)) (now (outs .entry)) (now (outs .exit)) r ⌝ }
 {
     let Some(inputs) = Inputs::read(ins) else {
         return Clocked::NoPorts;
