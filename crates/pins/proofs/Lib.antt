@@ -1,4 +1,5 @@
 pub mod Examples
+pub mod AtPorts
 pub mod Beginnings
 pub mod Histories
 pub mod Queues

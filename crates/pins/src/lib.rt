@@ -1,8 +1,8 @@
 // The core's ports: what the two public calls answer, and the words of one clock.
-ghost use mathlib.Core.Path.{_≡_};
-ghost use Rattle.pins.specs.Cases.{Worked};
-
 pub mod laws;
+pub mod ports;
+
+ghost use Rattle.pins.specs.Cases.{Worked};
 
 // A core was started, or its words are too few.
 #[derive(Clone, Copy)]
