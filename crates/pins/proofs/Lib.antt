@@ -6,6 +6,7 @@ pub mod Queues
 pub mod ViewClock
 pub mod Settling
 pub mod Waiting
+pub mod Walking
 pub mod ManualBeside
 pub mod Reaching
 pub mod Invariants

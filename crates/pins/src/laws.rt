@@ -4,6 +4,7 @@ ghost use Rattle.pins.specs.View.{View-laws};
 ghost use Rattle.pins.specs.Settled.{Settled-laws};
 ghost use Rattle.pins.specs.Waits.{Wait-laws};
 ghost use Rattle.pins.specs.Fronts.{Front-laws};
+ghost use Rattle.pins.specs.Walkthrough.{Walked};
 ghost use Rattle.pins.specs.Beside.{Beside-laws};
 ghost use Rattle.pins.specs.Reach.{Reach-laws, Call-laws};
 ghost use Rattle.pins.specs.Progress.{Progress-laws};
@@ -32,6 +33,13 @@ pub fn view_by_clocks() -> bool
 // What an open request will be answered with is settled when it is asked for; memory is the first with the effects done.
 pub fn settled_answers() -> bool
     ensures { λ _. ⌜ Settled-laws ⌝ }
+{
+    true
+}
+
+// One history clock by clock, as the documents walk through it.
+pub fn walkthrough() -> bool
+    ensures { λ _. ⌜ Walked ⌝ }
 {
     true
 }
