@@ -1,0 +1,4 @@
+mod Words
+mod Asking
+mod Recording
+mod Running
