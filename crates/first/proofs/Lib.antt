@@ -17,6 +17,7 @@ pub mod Invariant
 pub mod AnswerKept
 pub mod WorkKept
 pub mod ClockKept
+pub mod Counted
 pub mod RightNow
 pub mod AlwaysRight
 pub mod Left
