@@ -7,3 +7,4 @@ pub mod Step
 pub mod Layout
 pub mod Model
 pub mod Stands
+pub mod Parts

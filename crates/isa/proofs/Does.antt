@@ -17,6 +17,7 @@ use Rattle.isa.specs.declared.execute.Outcome.the-variants.{Write, Load as Rea
 use Rattle.isa.specs.declared.execute.Stop.the-variants.{Misaligned}
 use Rattle.isa.specs.Registers.{rd-of}
 use Rattle.isa.specs.Decoding.{decodes, cond-of, mul-of, alu-of, branch-of, muldiv-of, decoded}
+use Rattle.isa.specs.Single.{Single-laws}
 use Rattle.isa.specs.Executing.{executed, alu-value, aligned, outcome-in, work, enact, Decodes-to, Works-to}
 
 -- a function of what is picked picks among its values
@@ -94,3 +95,6 @@ work-decoded gs pc w d e f = ap₂ (λ b v. pick b (outcome-in gs pc v) (Halt Mi
 
 pub as-works : (gs : List ℕ) (pc w : ℕ) {o : Outcome} → o ≡ work gs pc w → Works-to gs pc w o
 as-works gs pc w e c s eg ep ew = works-to gs pc w c s eg ep ew ∙ ap (enact s) (sym e)
+
+pub single-laws : Single-laws
+single-laws = record { decoded = decodes-to; stepped = step-is }

@@ -13,7 +13,8 @@ use Rattle.isa.specs.declared.execute.Outcome.the-variants.{Write, Jump, Load 
 use Rattle.isa.proofs.Does.{step-is}
 use Rattle.isa.proofs.RunSteps.{run-laws, goes-not-stops}
 
-asked-more : (s : S) (r a : ℕ) (xs ys : List ℕ) → (asked s r a ys ≡ stops 3 → ⊥) → asked (more-answers s xs) r a (ys ++ xs) ≡ next-more (asked s r a ys) xs
+asked-more : (s : S) (r a : ℕ) (xs ys : List ℕ) → (asked s r a ys ≡ stops 3 → ⊥)
+    → asked (more-answers s xs) r a (ys ++ xs) ≡ next-more (asked s r a ys) xs
 asked-more s r a xs [] h = absurd (h refl)
 asked-more s r a xs (y ∷ ys) h = refl
 
@@ -21,7 +22,8 @@ asked-more s r a xs (y ∷ ys) h = refl
 abbrev loaded : Bool → S → ℕ → ℕ → Next
 loaded b s r a = pick b (asked s r a (s .answers)) (wrote s r (s .mem (a / 4)) (after1 s))
 
-loaded-more : (b : Bool) (s : S) (r a : ℕ) (xs : List ℕ) → (loaded b s r a ≡ stops 3 → ⊥) → loaded b (more-answers s xs) r a ≡ next-more (loaded b s r a) xs
+loaded-more : (b : Bool) (s : S) (r a : ℕ) (xs : List ℕ) → (loaded b s r a ≡ stops 3 → ⊥)
+    → loaded b (more-answers s xs) r a ≡ next-more (loaded b s r a) xs
 loaded-more true s r a xs h = asked-more s r a xs (s .answers) h
 loaded-more false s r a xs h = refl
 
@@ -45,7 +47,8 @@ with-step-is : (r : Run) (x : Next) → with-step r x .is ≡ x
 with-step-is r (goes u t es) = refl
 with-step-is r (stops k) = refl
 
-at-more : {c : Code} {s u : S} {n : ℕ} (xs : List ℕ) → run c (more-answers s xs) n ≡ run-more (run c s n) xs → At c s n u → At c (more-answers s xs) n (more-answers u xs)
+at-more : {c : Code} {s u : S} {n : ℕ} (xs : List ℕ) → run c (more-answers s xs) n ≡ run-more (run c s n) xs → At c s n u
+    → At c (more-answers s xs) n (more-answers u xs)
 at-more xs q p = record { last = p .last; did = p .did; is = ap (λ (r : Run). r .is) q ∙ ap (λ n. next-more n xs) (p .is) }
 
 run-more-is : (c : Code) (s : S) (xs : List ℕ) (n : ℕ) → (run c s n .is ≡ stops 3 → ⊥) → run c (more-answers s xs) n ≡ run-more (run c s n) xs

@@ -143,15 +143,18 @@ module _ (s : S) (k : Word-state s) where
   enact-fits (Write rd v n) h = wrote-fits (rd .number) v n (h .0) (h .1)
   enact-fits (Jump n) h = (record { regs = k .regs; pc = h; mem = k .mem; answers = k .answers }, omega arith)
   enact-fits (Read rd a) h =
-      pick-either Leaves (device a) (asked-fits (rd .number) a (s .answers) (k .answers)) (wrote-fits (rd .number) (s .mem (a / 4)) (after1 s) (k .mem (a / 4)) (omega arith))
+      pick-either Leaves (device a) (asked-fits (rd .number) a (s .answers) (k .answers))
+      (wrote-fits (rd .number) (s .mem (a / 4)) (after1 s) (k .mem (a / 4)) (omega arith))
   enact-fits (Save a v) h =
-      (record { regs = k .regs; pc = omega arith; mem = pick-either Word-memory (device a) (k .mem) (store-fits (s .mem) (a / 4) v h (k .mem)); answers = k .answers }, omega arith)
+      let m = pick-either Word-memory (device a) (k .mem) (store-fits (s .mem) (a / 4) v h (k .mem)) in
+      (record { regs = k .regs; pc = omega arith; mem = m; answers = k .answers }, omega arith)
   enact-fits (Halt j) h = tt
 
-step-fits : (c : Code) (s : S) {u : S} {t : Ret} {es : List Ev} → Word-memory c → Word-state s → step c s ≡ goes u t es → Word-state u × (t .val < 2 ^ 32)
+step-fits : (c : Code) (s : S) {u : S} {t : Ret} {es : List Ev} → Word-memory c → Word-state s → step c s ≡ goes u t es
+    → Word-state u × (t .val < 2 ^ 32)
 step-fits c s w k e =
-    let p = s .pc in
-    subst Leaves (sym (step-is c s) ∙ e) (enact-fits s k (work (s .regs) p (c (p / 4))) (work-fits (s .regs) p (c (p / 4)) (w (p / 4)) (k .pc) (k .regs)))
+    let w = work-fits (s .regs) (s .pc) (c (s .pc / 4)) (w (s .pc / 4)) (k .pc) (k .regs) in
+    subst Leaves (sym (step-is c s) ∙ e) (enact-fits s k (work (s .regs) (s .pc) (c (s .pc / 4))) w)
 
 run-fits : {c : Code} {s u : S} {n : ℕ} → Word-memory c → Word-state s → At c s n u → Word-state u
 run-fits {c} {n = n} w k p = along (λ n u. Word-state u) k (λ n u v t es h q e. step-fits c u w h e .0) n p

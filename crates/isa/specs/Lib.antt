@@ -5,6 +5,7 @@ pub mod Registers
 pub mod Ops
 pub mod Decoding
 pub mod Executing
+pub mod Single
 pub mod Traces
 pub mod Runs
 pub mod Widths

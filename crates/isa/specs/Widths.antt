@@ -20,5 +20,9 @@ pub record Word-state (s : S) : Type 0 where
   pub answers : Words (s .answers)
 
 pub record Width-laws : Type 0 where
-  pub step : (c : Code) (s : S) {u : S} {t : Ret} {es : List Ev} → Word-memory c → Word-state s → step c s ≡ goes u t es → Word-state u × (t .val < 2 ^ 32)
+  pub step : (c : Code) (s : S) {u : S} {t : Ret} {es : List Ev}
+      → Word-memory c
+      → Word-state s
+      → step c s ≡ goes u t es
+      → Word-state u × (t .val < 2 ^ 32)
   pub run : {c : Code} {s u : S} {n : ℕ} → Word-memory c → Word-state s → At c s n u → Word-state u

@@ -1,7 +1,8 @@
 // What an instruction does, for given operands.
 ghost use Prim.Native.Nat.{ℕ, _+_, _*_, _/_, _<_};
 ghost use mathlib.Core.Path.{_≡_};
-ghost use Rattle.isa.specs.Executing.{outcome, executed, work, how, Works-to};
+ghost use Rattle.isa.specs.Words.{add};
+ghost use Rattle.isa.specs.Executing.{aligned, outcome, executed, work, how, Works-to};
 use crate::alu::alu;
 use crate::alu::muldiv;
 use crate::alu::taken;
@@ -55,88 +56,73 @@ pub fn execute(instr: Instr, pc: u32, x: u32, y: u32) -> Outcome
     execute_kind(instr, pc, x, y)
 }
 
+// Writes a register and goes on behind this instruction.
+fn set(rd: Reg, value: u32, pc: u32) -> Outcome
+    ensures { λ r. ⌜ r ≡ Outcome.Write rd value (add pc 4) ⌝ }
+{
+    let next = pc.wrapping_add(4);
+    Outcome::Write { rd, value, next }
+}
+
+// Goes to `next`, with the address behind this instruction in `rd`.
+fn link(rd: Reg, pc: u32, next: u32) -> Outcome
+    ensures { λ r. ⌜ r ≡ aligned next (Outcome.Write rd (add pc 4) next) ⌝ }
+{
+    let value = pc.wrapping_add(4);
+    if next % 4 == 0 {
+        Outcome::Write { rd, value, next }
+    } else {
+        Outcome::Halt(Stop::Misaligned)
+    }
+}
+
+fn branch(next: u32) -> Outcome
+    ensures { λ r. ⌜ r ≡ aligned next (Outcome.Jump next) ⌝ }
+{
+    if next % 4 == 0 {
+        Outcome::Jump { next }
+    } else {
+        Outcome::Halt(Stop::Misaligned)
+    }
+}
+
+fn load(rd: Reg, address: u32) -> Outcome
+    ensures { λ r. ⌜ r ≡ aligned address (Outcome.Load rd address) ⌝ }
+{
+    if address % 4 == 0 {
+        Outcome::Load { rd, address }
+    } else {
+        Outcome::Halt(Stop::Misaligned)
+    }
+}
+
+fn store(address: u32, value: u32) -> Outcome
+    ensures { λ r. ⌜ r ≡ aligned address (Outcome.Store address value) ⌝ }
+{
+    if address % 4 == 0 {
+        Outcome::Store { address, value }
+    } else {
+        Outcome::Halt(Stop::Misaligned)
+    }
+}
+
 fn execute_kind(instr: Instr, pc: u32, x: u32, y: u32) -> Outcome
     ensures { λ r. ⌜ r ≡ outcome instr pc x y ⌝ }
 {
-    let next = pc.wrapping_add(4);
     match instr {
-        Instr::Lui { rd, imm } => Outcome::Write {
-            rd,
-            value: imm,
-            next,
-        },
-        Instr::Auipc { rd, imm } => Outcome::Write {
-            rd,
-            value: pc.wrapping_add(imm),
-            next,
-        },
-        Instr::Jal { rd, offset } => {
-            let target = pc.wrapping_add(offset);
-            if target % 4 == 0 {
-                Outcome::Write {
-                    rd,
-                    value: next,
-                    next: target,
-                }
-            } else {
-                Outcome::Halt(Stop::Misaligned)
-            }
-        }
-        Instr::Jalr { rd, offset, .. } => {
-            let target = even(x.wrapping_add(offset));
-            if target % 4 == 0 {
-                Outcome::Write {
-                    rd,
-                    value: next,
-                    next: target,
-                }
-            } else {
-                Outcome::Halt(Stop::Misaligned)
-            }
-        }
+        Instr::Lui { rd, imm } => set(rd, imm, pc),
+        Instr::Auipc { rd, imm } => set(rd, pc.wrapping_add(imm), pc),
+        Instr::Jal { rd, offset } => link(rd, pc, pc.wrapping_add(offset)),
+        Instr::Jalr { rd, offset, .. } => link(rd, pc, even(x.wrapping_add(offset))),
         Instr::Branch { cond, offset, .. } => {
-            let target = if taken(cond, x, y) {
-                pc.wrapping_add(offset)
-            } else {
-                next
-            };
-            if target % 4 == 0 {
-                Outcome::Jump { next: target }
-            } else {
-                Outcome::Halt(Stop::Misaligned)
-            }
+            let step = if taken(cond, x, y) { offset } else { 4 };
+            branch(pc.wrapping_add(step))
         }
-        Instr::Load { rd, offset, .. } => {
-            let address = x.wrapping_add(offset);
-            if address % 4 == 0 {
-                Outcome::Load { rd, address }
-            } else {
-                Outcome::Halt(Stop::Misaligned)
-            }
-        }
-        Instr::Store { offset, .. } => {
-            let address = x.wrapping_add(offset);
-            if address % 4 == 0 {
-                Outcome::Store { address, value: y }
-            } else {
-                Outcome::Halt(Stop::Misaligned)
-            }
-        }
-        Instr::AluImm { op, rd, imm, .. } => Outcome::Write {
-            rd,
-            value: alu(op, x, imm),
-            next,
-        },
-        Instr::AluReg { op, rd, .. } => Outcome::Write {
-            rd,
-            value: alu(op, x, y),
-            next,
-        },
-        Instr::MulDiv { op, rd, .. } => Outcome::Write {
-            rd,
-            value: muldiv(op, x, y),
-            next,
-        },
+        Instr::Load { rd, offset, .. } => load(rd, x.wrapping_add(offset)),
+        Instr::Store { offset, .. } => store(x.wrapping_add(offset), y),
+        Instr::AluImm { op, rd, imm, .. } => set(rd, alu(op, x, imm), pc),
+        Instr::AluReg { op, rd, .. } => set(rd, alu(op, x, y), pc),
+        Instr::MulDiv { op, rd, .. } => set(rd, muldiv(op, x, y), pc),
         Instr::Ecall => Outcome::Halt(Stop::EnvCall),
     }
 }

@@ -1,7 +1,15 @@
 // Laws of the manual that no core owns: each function's contract is the theorem, and its proof the theorem's.
+ghost use Rattle.isa.specs.Single.{Single-laws};
 ghost use Rattle.isa.specs.Traces.{Step-laws};
 ghost use Rattle.isa.specs.Runs.{Run-laws, Run-by-trace, Answer-laws};
 ghost use Rattle.isa.specs.Widths.{Width-laws};
+
+// One instruction: decoded, and worked out at its operands, it is the manual's.
+pub fn single_instructions() -> bool
+    ensures { λ _. ⌜ Single-laws ⌝ }
+{
+    true
+}
 
 // One step: its trace and its effects say what it did to registers, memory and answers, and when it stops.
 pub fn step_by_trace() -> bool

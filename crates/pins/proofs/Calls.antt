@@ -1,5 +1,5 @@
 -- What the public calls have to show of their words.
-use mathlib.Core.Path.{_≡_, subst}
+use mathlib.Core.Path.{_≡_, sym, subst}
 use mathlib.Core.List.{List, [], _∷_, _++_}
 use Prim.Native.Nat.{ℕ}
 use native.Mathlib.Omega.{arith}
@@ -7,8 +7,7 @@ use Rattle.std.specs.declared.option.Option.{Option}
 use Rattle.std.specs.declared.option.Option.the-variants.{Some, None}
 use Rattle.isa.specs.Manual.{Code, Mem}
 use Rattle.pins.specs.Outside.{Io, Hist, Right-in}
-use Rattle.pins.specs.Reach.{Mealy, Reach, started, Stands, Call-laws}
-use Rattle.pins.proofs.Reaching.{reach-clock}
+use Rattle.pins.specs.Reach.{Mealy, clock-io, Reach, started, clocked, Stands, Call-laws}
 
 module _ {State : Type 0} where
   one-state : (o : Option State) {s t : State} → o ≡ Some s → o ≡ Some t → s ≡ t
@@ -21,7 +20,9 @@ module _ {State : Type 0} where
       → decode w ≡ Some s → decode w′ ≡ Some (k .next s (x .in1)) → x .out1 ≡ k .out s (x .in1)
       → (c : Code) (m : Mem) (a : ℕ) (h : Hist) → Stands k decode c m a h w → Right-in c m h (x .in1) → Stands k decode c m a (h ++ (x ∷ [])) w′
   one-clock k decode w w′ x s e e′ f c m a h (t, d, p) r =
-      (k .next s (x .in1), e′, reach-clock k c m a h s x (subst (Reach k c m a h) (one-state (decode w) d e) p) r f)
+      let q = clocked (x .in1) (subst (Reach k c m a h) (one-state (decode w) d e) p) r in
+      let g : clock-io k s (x .in1) ≡ x = λ i. record { in1 = x .in1; out1 = sym f i } in
+      (k .next s (x .in1), e′, subst (λ z. Reach k c m a (h ++ (z ∷ [])) (k .next s (x .in1))) g q)
 
 pub call-laws : (State : Type 0) → Call-laws State
 call-laws State = record {

@@ -18,10 +18,10 @@ evs-append (x ∷ h) g =
     let es = ev-of (x .out1 .data1) in
     ap (λ l. es ++ l) (evs-append h g) ∙ sym (append-assoc es (evs h) (evs g))
 
-stopped-clock : (h : Hist) (x : Io) → stopped (h ++ (x ∷ [])) ≡ x .out1 .stopped
-stopped-clock [] x = refl
-stopped-clock (y ∷ []) x = refl
-stopped-clock (y ∷ z ∷ h) x = stopped-clock (z ∷ h) x
+stopped-append : (h : Hist) (x : Io) (g : Hist) → stopped (h ++ (x ∷ g)) ≡ stopped (x ∷ g)
+stopped-append [] x g = refl
+stopped-append (y ∷ []) x g = refl
+stopped-append (y ∷ z ∷ h) x g = stopped-append (z ∷ h) x g
 
 pub history-laws : History-laws
 history-laws = record {
@@ -32,7 +32,8 @@ history-laws = record {
   outside-clock = λ m h x. onward-append (begin m) h (x ∷ []);
   rets-clock = λ h x. rets-append h (x ∷ []) ∙ ap (λ l. rets h ++ l) (append-nil (x .out1 .rets));
   evs-clock = λ h x. evs-append h (x ∷ []) ∙ ap (λ l. evs h ++ l) (append-nil (ev-of (x .out1 .data1)));
-  stopped-clock = stopped-clock;
+  stopped-append = stopped-append;
+  stopped-clock = λ h x. stopped-append h x [];
 }
 
 -- an induction over histories from their last clock

@@ -1,10 +1,14 @@
 pub mod Examples
 pub mod AtPorts
+pub mod Beginnings
 pub mod Histories
 pub mod Queues
 pub mod ViewClock
 pub mod Settling
 pub mod Waiting
+pub mod Walking
+pub mod ManualBeside
 pub mod Reaching
 pub mod Invariants
 pub mod Calls
+pub mod Progressing

@@ -1,7 +1,7 @@
 -- What is open is two queues: over a clock the oldest goes if it is answered, the others get older, and a new one stands behind.
 use mathlib.Core.Path.{_≡_, refl, ap, _∙_}
-use mathlib.Core.List.{List, [], _∷_, map}
-use mathlib.Core.Option.{Option, some, none, Option·map}
+use mathlib.Core.List.{List, [], _∷_, map, map-map}
+use mathlib.Core.Option.{Option, some, none, Option·map, map-map as option-map-map}
 use Prim.Native.Nat.{ℕ, _+_}
 use Rattle.pins.specs.Ports.{Req}
 use Rattle.pins.specs.Outside.{Io, Want, Wish, O, older, older1, code-by, data-by, wanted, wished, after}
@@ -13,10 +13,18 @@ map-pop f none q = refl
 map-pop f (some x) [] = refl
 map-pop f (some x) (y ∷ q) = refl
 
-pub map-push : {A B : Type 0} (f : A → B) (y : Option A) (q : List A) → map f (push y q) ≡ push (Option·map f y) (map f q)
+map-push : {A B : Type 0} (f : A → B) (y : Option A) (q : List A) → map f (push y q) ≡ push (Option·map f y) (map f q)
 map-push f none q = refl
 map-push f (some y) [] = refl
 map-push f (some y) (z ∷ q) = ap (λ l. f z ∷ l) (map-push f (some y) q)
+
+-- the same over a clock, in which what stays gets older and a fresh one is pushed
+pub map-clock : {A B C : Type 0} (f : A → C) (fresh : B → A) (older : A → A) (y : Option B) (q : List A)
+    → map f (push (Option·map fresh y) (map older q)) ≡ push (Option·map (λ b. f (fresh b)) y) (map (λ a. f (older a)) q)
+map-clock f fresh older y q =
+    map-push f (Option·map fresh y) (map older q)
+    ∙ ap (λ z. push z (map f (map older q))) (option-map-map f fresh y)
+    ∙ ap (push (Option·map (λ b. f (fresh b)) y)) (map-map f older q)
 
 pub option-same : {A : Type 0} (y : Option A) → Option·map (λ x. x) y ≡ y
 option-same none = refl
@@ -87,8 +95,12 @@ pub record Clocked-to (o : O) (x : Io) : Type 0 where
 
 pub clocked-to : (o : O) (x : Io) → Clocked-to o x
 clocked-to o x = record {
-  codes = wanted-is (x .out1 .code) _ ∙ ap (push (Option·map new (x .out1 .code))) (older-is _ ∙ ap (map waited) (data-codes _ (x .in1 .data1) (o .datas) ∙ code-by-is (x .in1 .code) (o .codes)));
-  datas = wished-is (x .out1 .data1) _ ∙ ap (push (Option·map new1 (x .out1 .data1))) (older1-is _ ∙ ap (map waited1) (data-datas _ (x .in1 .data1) (o .datas) refl));
+  codes =
+      wanted-is (x .out1 .code) _
+      ∙ ap (push (Option·map new (x .out1 .code))) (older-is _ ∙ ap (map waited) (data-codes _ (x .in1 .data1) (o .datas) ∙ code-by-is (x .in1 .code) (o .codes)));
+  datas =
+      wished-is (x .out1 .data1) _
+      ∙ ap (push (Option·map new1 (x .out1 .data1))) (older1-is _ ∙ ap (map waited1) (data-datas _ (x .in1 .data1) (o .datas) refl));
   mem = data-mem _ (x .in1 .data1) (o .datas);
   told = data-told _ (x .in1 .data1) (o .datas);
 }

@@ -1,51 +1,38 @@
--- Where a core can come: the state is the history's, and a history of two parts goes through a state between them.
-use mathlib.Core.Path.{_≡_, refl, sym, ap, subst, _∙_}
+-- Where a core can come: a history of two parts goes through a state between them.
+use mathlib.Core.Path.{subst}
 use mathlib.Core.List.{[], _∷_, _++_, append-nil, append-assoc}
 use Prim.Native.Nat.{ℕ}
 use Rattle.isa.specs.Manual.{Code, Mem}
 use Rattle.pins.specs.Ports.{In}
 use Rattle.pins.specs.Outside.{Io, Hist, Right-in}
-use Rattle.pins.specs.Reach.{Mealy, clock-io, Reach, started, clocked, Trail, state-after, Through, Reach-laws}
+use Rattle.pins.specs.Reach.{Mealy, clock-io, Reach, started, clocked, Trail, arrived, passed, Through, Reach-laws}
 
-module _ {State : Type 0} (k : Mealy State) where
-  state-clock : (s : State) (h : Hist) (x : Io) → state-after k s (h ++ (x ∷ [])) ≡ k .next (state-after k s h) (x .in1)
-  state-clock s [] x = refl
-  state-clock s (y ∷ h) x = state-clock (k .next s (y .in1)) h x
+module _ {State : Type 0} {k : Mealy State} {c : Code} {m : Mem} where
+  -- one clock more at the end of a trail
+  trail-clock : {h g : Hist} {s t : State} (i : In) → Trail k c m h s g t → Right-in c m (h ++ g) i
+      → Trail k c m h s (g ++ (clock-io k t i ∷ [])) (k .next t i)
+  trail-clock i arrived r = passed i (rw append-nil at r) arrived
+  trail-clock {h} i (passed {g = g} {s = s} j q p) r = passed j q (trail-clock i p (rw append-assoc r))
 
-  pub state-is : {c : Code} {m : Mem} {a : ℕ} {h : Hist} {s : State} → Reach k c m a h s → s ≡ state-after k (k .first a) h
-  state-is started = refl
-  state-is {a = a} (clocked {h} {s} i p r) = ap (λ t. k .next t i) (state-is p) ∙ sym (state-clock (k .first a) h (clock-io k s i))
+  reach-trail : {a : ℕ} {h : Hist} {s : State} → Reach k c m a h s → Trail k c m [] (k .first a) h s
+  reach-trail started = arrived
+  reach-trail (clocked i p r) = trail-clock i (reach-trail p) r
 
-  module _ (c : Code) (m : Mem) where
-    trail-clock : (h : Hist) (s : State) (g : Hist) (i : In) → Trail k c m h s g → Right-in c m (h ++ g) i → Trail k c m h s (g ++ (clock-io k (state-after k s g) i ∷ []))
-    trail-clock h s [] i t r = (rw append-nil at r, refl, tt)
-    trail-clock h s (x ∷ g) i (p, q, t) r = (p, q, trail-clock (h ++ (x ∷ [])) (k .next s (x .in1)) g i t (rw append-assoc r))
+  split : (a : ℕ) (b : Hist) (s : State) (h g : Hist) (t : State) → Reach k c m a b s → Trail k c m b s (h ++ g) t → Through k c m a (b ++ h) g t
+  split a b s [] g t p q = record { between = s; reach = rw append-nil p; trail = rw append-nil q }
+  split a b s (x ∷ h) g t p q = by s x p q (λ b s p q. split a b s h g t p q)
+    where
+      by : (s : State) (x : Io) → Reach k c m a b s → Trail k c m b s (x ∷ (h ++ g)) t
+          → ((b : Hist) (s : State) → Reach k c m a b s → Trail k c m b s (h ++ g) t → Through k c m a (b ++ h) g t)
+          → Through k c m a (b ++ (x ∷ h)) g t
+      by s x p (passed i r q) rest = subst (λ z. Through k c m a z g t) (append-assoc b (clock-io k s i ∷ []) h) (rest _ _ (clocked i p r) q)
 
-    -- a core that came by h goes over h from its first state
-    reach-trail : {a : ℕ} {h : Hist} {s : State} → Reach k c m a h s → Trail k c m [] (k .first a) h
-    reach-trail started = tt
-    reach-trail {a} (clocked {h} {s} i p r) =
-        subst (λ t. Trail k c m [] (k .first a) (h ++ (clock-io k t i ∷ []))) (sym (state-is p)) (trail-clock [] (k .first a) h i (reach-trail p) r)
-
-    -- one clock of a trail
-    pub reach-clock : (a : ℕ) (h : Hist) (s : State) (x : Io) → Reach k c m a h s → Right-in c m h (x .in1) → x .out1 ≡ k .out s (x .in1) → Reach k c m a (h ++ (x ∷ [])) (k .next s (x .in1))
-    reach-clock a h s x p r e =
-        let f : clock-io k s (x .in1) ≡ x = λ i. record { in1 = x .in1; out1 = sym e i } in
-        subst (λ z. Reach k c m a (h ++ (z ∷ [])) (k .next s (x .in1))) f (clocked (x .in1) p r)
-
-    split : (a : ℕ) (b : Hist) (s : State) (h g : Hist) → Reach k c m a b s → Trail k c m b s (h ++ g) → Reach k c m a (b ++ h) (state-after k s h) × Trail k c m (b ++ h) (state-after k s h) g
-    split a b s [] g p t = rw append-nil (p, t)
-    split a b s (x ∷ h) g p (r, e, t) =
-        rw (← append-assoc b (x ∷ []) h) (split a (b ++ (x ∷ [])) (k .next s (x .in1)) h g (reach-clock a b s x p r e) t)
-
-  state-append : (s : State) (h g : Hist) → state-after k s (h ++ g) ≡ state-after k (state-after k s h) g
-  state-append s [] g = refl
-  state-append s (x ∷ h) g = state-append (k .next s (x .in1)) h g
-
-  pub through : {c : Code} {m : Mem} {a : ℕ} (h g : Hist) {s : State} → Reach k c m a (h ++ g) s → Through k c m a h g s
-  through {c} {m} {a} h g p =
-      let q = split c m a [] (k .first a) h g started (reach-trail c m p) in
-      record { between = state-after k (k .first a) h; reach = q .0; trail = q .1; ends = state-is p ∙ state-append (k .first a) h g }
+  join : {a : ℕ} {h g : Hist} {s t : State} → Reach k c m a h s → Trail k c m h s g t → Reach k c m a (h ++ g) t
+  join p arrived = rw append-nil p
+  join {a} {h} p (passed {g = g} {s = s} {t = t} i r q) = subst (λ z. Reach k c m a z t) (append-assoc h (clock-io k s i ∷ []) g) (join (clocked i p r) q)
 
 pub reach-laws : (State : Type 0) → Reach-laws State
-reach-laws State = record { state-is = λ {k} p. state-is k p; through = λ {k} h g p. through k h g p }
+reach-laws State = record {
+  through = λ {k} {c} {m} {a} h g {t} p. split a [] (k .first a) h g t started (reach-trail p);
+  join = λ p q. join p q;
+}

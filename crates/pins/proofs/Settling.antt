@@ -13,7 +13,7 @@ use Rattle.isa.specs.Traces.{effects, device-reads}
 use Rattle.isa.proofs.RunByTrace.{effects-append, reads-append}
 use Rattle.pins.specs.Ports.{Req, reads, writes1}
 use Rattle.pins.specs.Outside.{Io, Hist, mem-by, told-by, word, ev-of, evs}
-use Rattle.pins.specs.View.{View, view, pop, push, mem-then, told-then, evs-then, take-in, add-out, Read-allowed, Data-allowed}
+use Rattle.pins.specs.View.{View, view, pop, push, mem-then, told-then, evs-then, take-in, clock-view, Read-allowed, Data-allowed}
 use Rattle.pins.specs.Settled.{flush, flushed, mem-with, Due, any-word, from-device, that-word, due, dues-of, dues, Meets, tells, device-dues, Settled-laws}
 use Rattle.pins.proofs.ViewClock.{view-laws, by-views}
 
@@ -102,7 +102,11 @@ device-due m (writes1 a x) = refl
 device-asked : (m : Mem) (r : Option Req) (q : List Due) (es : List Ev) (n : ℕ) → n + device-dues q ≡ device-reads es
     → n + device-dues (push (Option·map (due m) r) q) ≡ device-reads (evs-then r es)
 device-asked m none q es n e = e
-device-asked m (some r) q es n e = let p = device-push q (due m r) in let d = device-due m r in let s = reads-append es (ev-of (some r)) in omega arith
+device-asked m (some r) q es n e =
+    let p = device-push q (due m r) in
+    let d = device-due m r in
+    let s = reads-append es (ev-of (some r)) in
+    omega arith
 
 device-answered : (x : Option ℕ) (q : List Due) → length (tells x q) + device-dues (pop x q) ≡ device-dues q
 device-answered none q = omega arith
@@ -115,7 +119,7 @@ module _ (m : Mem) where
   flushed-is : (h : Hist) → flushed (view m h) ≡ effects m (evs h)
   flushed-is h = by-views m (λ v. flushed v ≡ effects m (v .evs)) refl kept h
     where
-      kept : (v : View) (x : Io) → flushed v ≡ effects m (v .evs) → flushed (add-out (x .out1) (take-in (x .in1) v)) ≡ effects m (add-out (x .out1) (take-in (x .in1) v) .evs)
+      kept : (v : View) (x : Io) → flushed v ≡ effects m (v .evs) → flushed (clock-view x v) ≡ effects m (clock-view x v .evs)
       kept v x e =
           let r = x .out1 .data1 in
           flush-push (take-in (x .in1) v .mem) r (take-in (x .in1) v .datas)
@@ -126,7 +130,7 @@ module _ (m : Mem) where
   told-count h = by-views m (λ v. length (v .told) + device-dues (dues v) ≡ device-reads (v .evs)) refl kept h
     where
       kept : (v : View) (x : Io) → length (v .told) + device-dues (dues v) ≡ device-reads (v .evs)
-          → length (add-out (x .out1) (take-in (x .in1) v) .told) + device-dues (dues (add-out (x .out1) (take-in (x .in1) v))) ≡ device-reads (add-out (x .out1) (take-in (x .in1) v) .evs)
+          → length (clock-view x v .told) + device-dues (dues (clock-view x v)) ≡ device-reads (clock-view x v .evs)
       kept v x e =
           let y = x .in1 .data1 in
           let u = take-in (x .in1) v in
@@ -146,6 +150,6 @@ settled-laws = record {
   flushed-asked = λ r v. flush-push (v .mem) r (v .datas);
   flushed-is = flushed-is;
   told = λ x v. told-is x (v .mem) (v .datas) (v .told);
-  told-clock = λ m h x. ap (λ (v : View). v .told) (view-laws .one-clock m h x) ∙ told-is (x .in1 .data1) (view m h .mem) (view m h .datas) (view m h .told);
+  told-clock = λ m h x. (let v = view m h in ap (λ (u : View). u .told) (view-laws .one-clock m h x) ∙ told-is (x .in1 .data1) (v .mem) (v .datas) (v .told));
   told-count = told-count;
 }

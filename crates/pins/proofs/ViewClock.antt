@@ -1,7 +1,7 @@
 -- A clock more in the history is its answers taken from the view and what it shows added.
 use mathlib.Core.Path.{_≡_, refl, sym, ap, subst, _∙_}
-use mathlib.Core.List.{List, [], _∷_, _++_, map, map-map, append-nil, append-assoc}
-use mathlib.Core.Option.{Option, some, none, Option·map, map-map as option-map-map}
+use mathlib.Core.List.{List, [], _∷_, _++_, append-nil, append-assoc}
+use mathlib.Core.Option.{Option, some, none}
 use Prim.Native.Nat.{ℕ, _+_}
 use native.Mathlib.Omega.{arith}
 use lib.ListN.{length, length-append, length-map}
@@ -9,27 +9,25 @@ use Rattle.isa.specs.Manual.{Code, Mem, Ret, Ev}
 use Rattle.pins.specs.Ports.{In, Req, reads, writes1}
 use Rattle.pins.specs.Outside.{Io, Hist, Want, Wish, O, after, outside, ev-of, Code-right, Read-right, Data-right, Right-in}
 use Rattle.pins.specs.Says.{Right}
-use Rattle.pins.specs.View.{View, addrs, reqs, view, pop, push, evs-then, rets-then, take-in, add-out, ones, View-laws}
+use Rattle.pins.specs.View.{View, addrs, reqs, view, pop, push, evs-then, rets-then, clock-view, ones, View-laws}
 use Rattle.pins.specs.View.{Code-allowed, Read-allowed, Data-allowed, Allowed, Right-view}
-use Rattle.pins.proofs.Queues.{map-pop, map-push, option-same, waited, waited1, new, new1, clocked-to}
+use Rattle.pins.proofs.Queues.{map-pop, map-clock, option-same, waited, waited1, new, new1, clocked-to}
 use Rattle.pins.proofs.Histories.{history-laws, by-clocks}
 
 -- the queues without ages
 codes-clock : (o : O) (x : Io) → addrs (after o x .codes) ≡ push (x .out1 .code) (pop (x .in1 .code) (addrs (o .codes)))
 codes-clock o x =
-    let q = pop (x .in1 .code) (o .codes) in
-    let y = x .out1 .code in
-    ap addrs (clocked-to o x .codes) ∙ map-push (λ (w : Want). w .addr) (Option·map new y) (map waited q)
-    ∙ ap (λ z. push z (addrs (map waited q))) (option-map-map (λ (w : Want). w .addr) new y ∙ option-same y)
-    ∙ ap (push y) (map-map (λ (w : Want). w .addr) waited q ∙ map-pop (λ (w : Want). w .addr) (x .in1 .code) (o .codes))
+    let addr : Want → ℕ = λ w. w .addr in
+    ap addrs (clocked-to o x .codes)
+    ∙ map-clock addr new waited (x .out1 .code) (pop (x .in1 .code) (o .codes))
+    ∙ (λ i. push (option-same (x .out1 .code) i) (map-pop addr (x .in1 .code) (o .codes) i))
 
 datas-clock : (o : O) (x : Io) → reqs (after o x .datas) ≡ push (x .out1 .data1) (pop (x .in1 .data1) (reqs (o .datas)))
 datas-clock o x =
-    let q = pop (x .in1 .data1) (o .datas) in
-    let y = x .out1 .data1 in
-    ap reqs (clocked-to o x .datas) ∙ map-push (λ (w : Wish). w .req) (Option·map new1 y) (map waited1 q)
-    ∙ ap (λ z. push z (reqs (map waited1 q))) (option-map-map (λ (w : Wish). w .req) new1 y ∙ option-same y)
-    ∙ ap (push y) (map-map (λ (w : Wish). w .req) waited1 q ∙ map-pop (λ (w : Wish). w .req) (x .in1 .data1) (o .datas))
+    let req : Wish → Req = λ w. w .req in
+    ap reqs (clocked-to o x .datas)
+    ∙ map-clock req new1 waited1 (x .out1 .data1) (pop (x .in1 .data1) (o .datas))
+    ∙ (λ i. push (option-same (x .out1 .data1) i) (map-pop req (x .in1 .data1) (o .datas) i))
 
 evs-more : (r : Option Req) (es : List Ev) → es ++ ev-of r ≡ evs-then r es
 evs-more none es = append-nil es
@@ -39,7 +37,7 @@ rets-more : (ts rs : List Ret) → rs ++ ts ≡ rets-then ts rs
 rets-more [] rs = append-nil rs
 rets-more (t ∷ ts) rs = sym (append-assoc rs (t ∷ []) ts) ∙ rets-more ts (rs ++ (t ∷ []))
 
-one-clock : (m : Mem) (h : Hist) (x : Io) → view m (h ++ (x ∷ [])) ≡ add-out (x .out1) (take-in (x .in1) (view m h))
+one-clock : (m : Mem) (h : Hist) (x : Io) → view m (h ++ (x ∷ [])) ≡ clock-view x (view m h)
 one-clock m h x = λ i. record {
   codes = (ap (λ (o : O). addrs (o .codes)) e ∙ codes-clock (outside m h) x) i;
   datas = (ap (λ (o : O). reqs (o .datas)) e ∙ datas-clock (outside m h) x) i;
@@ -113,5 +111,5 @@ view-laws = record {
 }
 
 -- what a clock keeps of a view holds after every history
-pub by-views : (m : Mem) (P : View → Type 0) → P (view m []) → ((v : View) (x : Io) → P v → P (add-out (x .out1) (take-in (x .in1) v))) → (h : Hist) → P (view m h)
+pub by-views : (m : Mem) (P : View → Type 0) → P (view m []) → ((v : View) (x : Io) → P v → P (clock-view x v)) → (h : Hist) → P (view m h)
 by-views m P start clock h = by-clocks (λ g. P (view m g)) start (λ g x p. subst P (sym (one-clock m g x)) (clock (view m g) x p)) h

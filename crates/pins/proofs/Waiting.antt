@@ -3,7 +3,7 @@ use mathlib.Core.Path.{_≡_, refl, sym, ap, subst, _∙_}
 use mathlib.Core.Logic.{_⊎_, inl, inr}
 use mathlib.Core.Bool.{Bool, true, false, _&&_}
 use mathlib.Core.List.{List, [], _∷_, _++_, map, map-map, append-nil}
-use mathlib.Core.Option.{Option, some, none, Option·map, map-map as option-map-map}
+use mathlib.Core.Option.{Option, some, none}
 use Prim.Native.Nat.{ℕ, zero, suc, _+_, _≤_, _<_}
 use native.Mathlib.Omega.{arith}
 use lib.Dec.{leb}
@@ -14,26 +14,26 @@ use Rattle.isa.specs.Manual.{Mem}
 use Rattle.pins.specs.Outside.{Io, Hist, Want, Wish, O, after, onward, outside, young, young1, Prompt}
 use Rattle.pins.specs.View.{pop, push, ones}
 use Rattle.pins.specs.Waits.{ages, ages1, aged, age0, Calm, answers, code-answers, data-answers, Wait-laws}
-use Rattle.pins.proofs.Queues.{map-pop, map-push, waited, waited1, new, new1, clocked-to}
+use Rattle.pins.proofs.Queues.{map-pop, map-clock, waited, waited1, new, new1, clocked-to}
 use Rattle.pins.proofs.Histories.{history-laws}
+
+-- what stays is one clock older
+older-is : {A : Type 0} (age : A → ℕ) (x : Option ℕ) (q : List A) → map (λ w. age w + 1) (pop x q) ≡ map (λ n. n + 1) (pop x (map age q))
+older-is age x q = sym (map-map (λ n. n + 1) age (pop x q)) ∙ ap (map (λ n. n + 1)) (map-pop age x q)
 
 codes-aged : (o : O) (x : Io) → ages (after o x .codes) ≡ aged (x .in1 .code) (age0 (x .out1 .code)) (ages (o .codes))
 codes-aged o x =
-    let q = pop (x .in1 .code) (o .codes) in
-    let y = x .out1 .code in
-    ap ages (clocked-to o x .codes) ∙ map-push (λ (w : Want). w .age) (Option·map new y) (map waited q)
-    ∙ ap (λ z. push z (ages (map waited q))) (option-map-map (λ (w : Want). w .age) new y)
-    ∙ ap (push (age0 y)) (map-map (λ (w : Want). w .age) waited q ∙ sym (map-map (λ n. n + 1) (λ (w : Want). w .age) q))
-    ∙ ap (λ l. push (age0 y) (map (λ n. n + 1) l)) (map-pop (λ (w : Want). w .age) (x .in1 .code) (o .codes))
+    let age : Want → ℕ = λ w. w .age in
+    ap ages (clocked-to o x .codes)
+    ∙ map-clock age new waited (x .out1 .code) (pop (x .in1 .code) (o .codes))
+    ∙ ap (push (age0 (x .out1 .code))) (older-is age (x .in1 .code) (o .codes))
 
 datas-aged : (o : O) (x : Io) → ages1 (after o x .datas) ≡ aged (x .in1 .data1) (age0 (x .out1 .data1)) (ages1 (o .datas))
 datas-aged o x =
-    let q = pop (x .in1 .data1) (o .datas) in
-    let y = x .out1 .data1 in
-    ap ages1 (clocked-to o x .datas) ∙ map-push (λ (w : Wish). w .age) (Option·map new1 y) (map waited1 q)
-    ∙ ap (λ z. push z (ages1 (map waited1 q))) (option-map-map (λ (w : Wish). w .age) new1 y)
-    ∙ ap (push (age0 y)) (map-map (λ (w : Wish). w .age) waited1 q ∙ sym (map-map (λ n. n + 1) (λ (w : Wish). w .age) q))
-    ∙ ap (λ l. push (age0 y) (map (λ n. n + 1) l)) (map-pop (λ (w : Wish). w .age) (x .in1 .data1) (o .datas))
+    let age : Wish → ℕ = λ w. w .age in
+    ap ages1 (clocked-to o x .datas)
+    ∙ map-clock age new1 waited1 (x .out1 .data1) (pop (x .in1 .data1) (o .datas))
+    ∙ ap (push (age0 (x .out1 .data1))) (older-is age (x .in1 .data1) (o .datas))
 
 older : (x y : Option ℕ) (q : List ℕ) (n : ℕ) → n < length (pop x q) → getD (aged x y q) n 0 ≡ getD (pop x q) n 0 + 1
 older x y q n h = of (pop x q) y n h

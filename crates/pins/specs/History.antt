@@ -9,6 +9,7 @@ pub record History-laws : Type 0 where
   pub outside-append : (m : Mem) (h g : Hist) → outside m (h ++ g) ≡ onward (outside m h) g
   pub rets-append : (h g : Hist) → rets (h ++ g) ≡ rets h ++ rets g
   pub evs-append : (h g : Hist) → evs (h ++ g) ≡ evs h ++ evs g
+  pub stopped-append : (h : Hist) (x : Io) (g : Hist) → stopped (h ++ (x ∷ g)) ≡ stopped (x ∷ g)
   -- one clock more
   pub outside-clock : (m : Mem) (h : Hist) (x : Io) → outside m (h ++ (x ∷ [])) ≡ after (outside m h) x
   pub rets-clock : (h : Hist) (x : Io) → rets (h ++ (x ∷ [])) ≡ rets h ++ x .out1 .rets

@@ -8,4 +8,8 @@ pub mod History
 pub mod View
 pub mod Settled
 pub mod Waits
+pub mod Walkthrough
+pub mod Fronts
+pub mod Beside
 pub mod Reach
+pub mod Progress

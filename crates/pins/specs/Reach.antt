@@ -12,7 +12,7 @@ use Rattle.pins.specs.declared.Clocked.the-variants.{Done, NoCore}
 use Rattle.pins.specs.Ports.{In, Out, in-of, out-of, sound-out}
 use Rattle.pins.specs.Outside.{Io, Hist, Right-in}
 use Rattle.pins.specs.Says.{Always-right, StartedSays, ClockedSays}
-use Rattle.pins.specs.View.{View, view, take-in, add-out, Allowed, Right-view}
+use Rattle.pins.specs.View.{View, view, clock-view, Allowed, Right-view}
 
 -- a Mealy machine: where it begins at a start address, its next state, and what it shows in the clock
 pub record Mealy (State : Type 0) : Type 0 where
@@ -33,26 +33,27 @@ pub data Reach {State : Type 0} (k : Mealy State) (c : Code) (m : Mem) (a : ℕ)
 abbrev pub Stands : {State : Type 0} → Mealy State → (List ℕ → Option State) → Code → Mem → ℕ → Hist → List ℕ → Type 0
 Stands {State} k decode c m a h w = (s : State) × (decode w ≡ Some s) × Reach k c m a h s
 
--- from state s, with h behind it, the core goes on over g
-abbrev pub Trail : {State : Type 0} → Mealy State → Code → Mem → Hist → State → Hist → Type 0
-Trail k c m h s [] = Unit {0}
-Trail k c m h s (x ∷ g) = Right-in c m h (x .in1) × (x .out1 ≡ k .out s (x .in1)) × Trail k c m (h ++ (x ∷ [])) (k .next s (x .in1)) g
-
-abbrev pub state-after : {State : Type 0} → Mealy State → State → Hist → State
-state-after k s [] = s
-state-after k s (x ∷ g) = state-after k (k .next s (x .in1)) g
+-- from state s, with h behind it, the core goes over g to state t
+pub data Trail {State : Type 0} (k : Mealy State) (c : Code) (m : Mem) : Hist → State → Hist → State → Type 0 where
+  arrived : {h : Hist} {s : State} → Trail k c m h s [] s
+  passed : {h g : Hist} {s t : State} (i : In)
+      → Right-in c m h i
+      → Trail k c m (h ++ (clock-io k s i ∷ [])) (k .next s i) g t
+      → Trail k c m h s (clock-io k s i ∷ g) t
 
 -- a history of two parts goes through a state between them
-pub record Through {State : Type 0} (k : Mealy State) (c : Code) (m : Mem) (a : ℕ) (h g : Hist) (s : State) : Type 0 where
+pub record Through {State : Type 0} (k : Mealy State) (c : Code) (m : Mem) (a : ℕ) (h g : Hist) (t : State) : Type 0 where
   pub between : State
   pub reach : Reach k c m a h between
-  pub trail : Trail k c m h between g
-  pub ends : s ≡ state-after k between g
+  pub trail : Trail k c m h between g t
 
 pub record Reach-laws (State : Type 0) : Type 0 where
-  -- the history determines the state
-  pub state-is : {k : Mealy State} {c : Code} {m : Mem} {a : ℕ} {h : Hist} {s : State} → Reach k c m a h s → s ≡ state-after k (k .first a) h
-  pub through : {k : Mealy State} {c : Code} {m : Mem} {a : ℕ} (h g : Hist) {s : State} → Reach k c m a (h ++ g) s → Through k c m a h g s
+  pub through : {k : Mealy State} {c : Code} {m : Mem} {a : ℕ} (h g : Hist) {t : State} → Reach k c m a (h ++ g) t → Through k c m a h g t
+  -- and where it comes to by the first part and goes over the second, it comes to by both
+  pub join : {k : Mealy State} {c : Code} {m : Mem} {a : ℕ} {h g : Hist} {s t : State}
+      → Reach k c m a h s
+      → Trail k c m h s g t
+      → Reach k c m a (h ++ g) t
 
 -- what the public calls have to show of their words, and no more, for their promise of Stands
 pub record Call-laws (State : Type 0) : Type 0 where
@@ -75,7 +76,10 @@ pub record Call-laws (State : Type 0) : Type 0 where
 -- an invariant over state and view: it holds at first, each allowed clock keeps it, and where it holds the ports are right
 pub record Invariant {State : Type 0} (k : Mealy State) (Inv : Code → Mem → ℕ → State → View → Type 0) : Type 0 where
   pub starts : (c : Code) (m : Mem) (a : ℕ) → Inv c m a (k .first a) (view m [])
-  pub kept : (c : Code) (m : Mem) (a : ℕ) (s : State) (v : View) (i : In) → Allowed c v i → Inv c m a s v → Inv c m a (k .next s i) (add-out (k .out s i) (take-in i v))
+  pub kept : (c : Code) (m : Mem) (a : ℕ) (s : State) (v : View) (i : In)
+      → Allowed c v i
+      → Inv c m a s v
+      → Inv c m a (k .next s i) (clock-view (clock-io k s i) v)
   pub right : (c : Code) (m : Mem) (a : ℕ) (s : State) (v : View) → Inv c m a s v → Right-view c m a v
 
 -- (It speaks of every predicate, so that no function's contract can name it: each core's own does, which has Always-right by it.)

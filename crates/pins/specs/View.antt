@@ -145,6 +145,9 @@ take-in i v = take-data (i .data1) (take-code (i .code) v)
 abbrev pub add-out : Out → View → View
 add-out o v = show-stop (o .stopped) (want-code (o .code) (ask-data (o .data1) (retire (o .rets) v)))
 
+abbrev pub clock-view : Io → View → View
+clock-view x v = add-out (x .out1) (take-in (x .in1) v)
+
 -- the answers that are allowed at a view
 abbrev pub Code-allowed : Code → Option ℕ → List ℕ → Type 0
 Code-allowed c none q = Unit {0}
@@ -177,13 +180,15 @@ pub record Right-view (c : Code) (m : Mem) (a : ℕ) (v : View) : Type 0 where
   pub done : v .rets ≡ run-at c m a v .rets
   pub asked : (xs : List ℕ) × Front (v .evs) (run c (first a m (v .told ++ xs)) (suc (length (v .rets))) .evs)
   pub behind : length (run-at c m a v .evs) ≤ length (v .evs) + 8
-  pub stop : (k : ℕ) → v .stopped ≡ some k → (k < 3) × (run c (first a m (v .told)) (suc (length (v .rets))) .is ≡ stops k) × (v .evs ≡ run-at c m a v .evs)
+  pub stop : (k : ℕ)
+      → v .stopped ≡ some k
+      → (k < 3) × (run c (first a m (v .told)) (suc (length (v .rets))) .is ≡ stops k) × (v .evs ≡ run-at c m a v .evs)
   pub few-codes : length (v .codes) ≤ 4
   pub few-datas : length (v .datas) ≤ 4
 
 pub record View-laws : Type 0 where
   pub at-start : (m : Mem) → view m [] ≡ record { codes = []; datas = []; mem = m; told = []; rets = []; evs = []; stopped = none }
-  pub one-clock : (m : Mem) (h : Hist) (x : Io) → view m (h ++ (x ∷ [])) ≡ add-out (x .out1) (take-in (x .in1) (view m h))
+  pub one-clock : (m : Mem) (h : Hist) (x : Io) → view m (h ++ (x ∷ [])) ≡ clock-view x (view m h)
   -- what is allowed after a history is allowed at its view, and a view that is right is that of a right history
   pub allowed : {c : Code} {m : Mem} {h : Hist} {i : In} → Right-in c m h i → Allowed c (view m h) i
   pub right : {c : Code} {m : Mem} {a : ℕ} {h : Hist} → Right-view c m a (view m h) → Right c m a h

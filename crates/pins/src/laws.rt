@@ -3,7 +3,18 @@ ghost use Rattle.pins.specs.History.{History-laws};
 ghost use Rattle.pins.specs.View.{View-laws};
 ghost use Rattle.pins.specs.Settled.{Settled-laws};
 ghost use Rattle.pins.specs.Waits.{Wait-laws};
+ghost use Rattle.pins.specs.Fronts.{Front-laws};
+ghost use Rattle.pins.specs.Walkthrough.{Walked};
+ghost use Rattle.pins.specs.Beside.{Beside-laws};
 ghost use Rattle.pins.specs.Reach.{Reach-laws, Call-laws};
+ghost use Rattle.pins.specs.Progress.{Progress-laws};
+
+// The beginning of a list, as the promise of the ports has it, by what stands behind it.
+pub fn fronts<T>() -> bool
+    ensures { λ _. ⌜ Front-laws T ⌝ }
+{
+    true
+}
 
 // The outside and what was shown, over histories put together.
 pub fn histories() -> bool
@@ -26,6 +37,13 @@ pub fn settled_answers() -> bool
     true
 }
 
+// One history clock by clock, as the documents walk through it.
+pub fn walkthrough() -> bool
+    ensures { λ _. ⌜ Walked ⌝ }
+{
+    true
+}
+
 // What is open gets older clock by clock, and with answers within l clocks all of it is answered by l + 1.
 pub fn waits() -> bool
     ensures { λ _. ⌜ Wait-laws ⌝ }
@@ -33,7 +51,14 @@ pub fn waits() -> bool
     true
 }
 
-// Of any core with states S: a history determines the state, and its parts go through states.
+// The manual beside what the ports have shown: what a device's answer and a retired instruction do to both.
+pub fn manual_beside() -> bool
+    ensures { λ _. ⌜ Beside-laws ⌝ }
+{
+    true
+}
+
+// Of any core with states S: a history of two parts goes through a state between them.
 pub fn reach<S>() -> bool
     ensures { λ _. ⌜ Reach-laws S ⌝ }
 {
@@ -43,6 +68,13 @@ pub fn reach<S>() -> bool
 // Of any core with states S: what its calls have to show of their words.
 pub fn calls<S>() -> bool
     ensures { λ _. ⌜ Call-laws S ⌝ }
+{
+    true
+}
+
+// Of any core with states S: ranks that fall make it go on.
+pub fn progress<S>() -> bool
+    ensures { λ _. ⌜ Progress-laws S ⌝ }
 {
     true
 }

@@ -7,7 +7,7 @@ use native.Mathlib.Omega.{arith}
 use lib.ListN.{drop, getD, length}
 use lib.Seq.{drop-cons}
 use Rattle.isa.specs.Words.{add}
-use Rattle.isa.specs.Manual.{Next, goes, stops, asks, asked}
+use Rattle.isa.specs.Manual.{goes, stops, asks, asked}
 use Rattle.reference.specs.declared.machine.Machine.{Machine}
 use Rattle.reference.specs.declared.trace.Trace.{Trace}
 use Rattle.reference.specs.Machine.{state, written, traced, ret-of}

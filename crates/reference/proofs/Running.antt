@@ -1,5 +1,5 @@
 -- The history of a run, step by step.
-use mathlib.Core.Path.{_≡_, refl, sym, ap, ap₂, subst, _∙_}
+use mathlib.Core.Path.{_≡_, sym, ap, subst, _∙_}
 use mathlib.Core.Bool.{true, false, true≢false}
 use mathlib.Core.List.{List, [], _∷_, _++_}
 use Prim.Native.Nat.{ℕ, suc, _+_, _-_, _<_, _≤_}
@@ -9,7 +9,7 @@ use Rattle.std.specs.declared.option.Option.{Option}
 use Rattle.std.specs.declared.result.Result.{Result}
 use Rattle.std.specs.declared.result.Result.the-variants.{Ok, Err}
 use Rattle.std.specs.Results.{isErr}
-use Rattle.isa.specs.Manual.{Code, S, Ret, Next, goes, stops, step, Run, run}
+use Rattle.isa.specs.Manual.{Code, S, Next, goes, stops, step, Run, run}
 use Rattle.isa.specs.Runs.{At, with-step}
 use Rattle.isa.proofs.RunSteps.{at-zero, at-suc, rets-suc, evs-suc, run-laws}
 use Rattle.reference.specs.declared.history.History.{History}

@@ -1,5 +1,5 @@
 -- A map of words as a function, after what is done to it.
-use mathlib.Core.Path.{_≡_, refl, sym, ap, ap₂, _∙_}
+use mathlib.Core.Path.{_≡_, refl, ap, ap₂, _∙_}
 use mathlib.Core.Bool.{Bool, true, false, cond}
 use mathlib.Core.List.{[]}
 use Prim.Native.Nat.{ℕ, _<_}
@@ -8,7 +8,7 @@ use lib.Dec.{eqb}
 use Rattle.std.specs.declared.collections.BTreeMap.{BTreeMap}
 use Rattle.std.specs.declared.cmp.Ordering.{Ordering}
 use Rattle.std.specs.declared.option.Option.{Option}
-use Rattle.std.specs.declared.option.Option.the-variants.{Some, None}
+use Rattle.std.specs.declared.option.Option.the-variants.{Some}
 use Rattle.std.specs.BTreeMap.{at, keys, vals, Sets, Unchanged}
 use Rattle.std.specs.Finite.{lookup}
 use Rattle.std.specs.Keys.{unsigned, unsigned-tied, tied}

@@ -5,7 +5,7 @@ use Prim.Native.Nat.{ℕ, _≤_}
 use Rattle.std.specs.declared.result.Result.{Result}
 use Rattle.std.specs.declared.result.Result.the-variants.{Ok, Err}
 use Rattle.std.specs.Of.Vec.{vec-items}
-use Rattle.isa.specs.Manual.{Code, S, Ret, Ev, stops, Run, run}
+use Rattle.isa.specs.Manual.{Code, S, Ret, Ev, stops, run}
 use Rattle.isa.specs.Executing.{how}
 use Rattle.isa.specs.Runs.{At}
 use Rattle.reference.specs.declared.history.History.{History}

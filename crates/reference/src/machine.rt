@@ -1,7 +1,7 @@
 // The manual's machine: registers, pc and data, one instruction at a time.
 ghost use mathlib.Core.Path.{_≡_};
 ghost use mathlib.Core.List.{List};
-ghost use Prim.Native.Nat.{ℕ, _*_, _/_, _+_};
+ghost use Prim.Native.Nat.{ℕ};
 ghost use lib.ListN.{drop};
 ghost use Rattle.isa.specs.Manual.{asked, saved, step};
 ghost use Rattle.isa.specs.Executing.{enact};

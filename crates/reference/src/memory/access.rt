@@ -1,6 +1,5 @@
 // Reading and writing a memory.
 ghost use mathlib.Core.Path.{_≡_};
-ghost use Prim.Native.Nat.{ℕ};
 ghost use Rattle.std.specs.Results.{Cases};
 ghost use Rattle.isa.specs.Manual.{store};
 ghost use Rattle.reference.specs.Memory.{words-of};
