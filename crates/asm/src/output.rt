@@ -64,7 +64,7 @@ impl Output {
         let address = cursor.address();
         let old = if cursor.in_data {
             if address >= 1 << 31 {
-                return Err(Fault::name(Problem::NotInData(address)));
+                return Err(Fault::name(Problem::DeviceAddress(address)));
             }
             self.data.insert(address, word)?
         } else {
