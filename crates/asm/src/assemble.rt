@@ -10,7 +10,7 @@ use crate::text::split_line;
 use std::alloc::Global;
 use std::collections::BTreeMap;
 
-// The program of a text, or the first thing that is wrong with it.
+// The program of a text, or what is wrong with it.
 pub fn assemble<'a>(heap: Global, text: &'a str) -> Result<Program, AsmError<'a>> {
     let symbols = find_labels(heap, text)?;
     let mut out = Output::new(heap);

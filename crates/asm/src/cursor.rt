@@ -1,4 +1,7 @@
 // Where the words of a text go.
+ghost use mathlib.Core.Path.{_≡_};
+ghost use Prim.Native.Nat.{_+_, _*_, _%_, _^_};
+ghost use Rattle.asm.specs.Cursors.{here};
 use crate::error::Fault;
 use crate::error::Problem;
 use crate::pseudo::Pseudo;
@@ -22,7 +25,9 @@ impl Cursor {
     };
 
     // The address of the next word.
-    pub fn address(self) -> u32 {
+    pub fn address(self) -> u32
+        ensures { λ r. ⌜ r ≡ here self ⌝ }
+    {
         if self.in_data {
             self.data.unwrap_or(0)
         } else {
@@ -30,7 +35,11 @@ impl Cursor {
         }
     }
 
-    pub fn at(self, address: u32) -> Cursor {
+    // The same section, at another address.
+    pub fn at(self, address: u32) -> Cursor
+        ensures there { λ r. ⌜ here r ≡ address ⌝ }
+        ensures section { λ r. ⌜ r .«in_data» ≡ self .«in_data» ⌝ }
+    {
         if self.in_data {
             Cursor {
                 data: Some(address),
@@ -45,8 +54,11 @@ impl Cursor {
     }
 
     // Some words on; addresses go round at 2^32.
-    pub fn on(self, words: usize) -> Cursor {
-        let bytes = (words.wrapping_mul(4) & 0xffff_ffff) as u32;
+    pub fn on(self, words: usize) -> Cursor
+        ensures there { λ r. ⌜ here r ≡ (here self + 4 * words) % 2 ^ 32 ⌝ }
+        ensures section { λ r. ⌜ r .«in_data» ≡ self .«in_data» ⌝ }
+    {
+        let bytes = (words % (1 << 30)) as u32 * 4;
         self.at(self.address().wrapping_add(bytes))
     }
 

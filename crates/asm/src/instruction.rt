@@ -2,6 +2,7 @@
 ghost use mathlib.Core.Path.{_≡_};
 ghost use Rattle.std.specs.Vec.{made};
 ghost use Rattle.std.specs.declared.option.Option.the-variants.{Some};
+ghost use Rattle.isa.specs.declared.instr.Instr.the-variants.{Branch};
 ghost use Rattle.isa.specs.Decoding.{decodes};
 use crate::encode::encode;
 use crate::error::Fault;
@@ -144,7 +145,9 @@ pub fn jump_register(rd: Reg, s: Statement<'_>) -> Result<u32, Fault> {
     word(Instr::Jalr { rd, rs1, offset: 0 }, 0)
 }
 
-pub fn branch(cond: Cond, rs1: Reg, rs2: Reg, offset: u32, place: usize) -> Result<u32, Fault> {
+pub fn branch(cond: Cond, rs1: Reg, rs2: Reg, offset: u32, place: usize) -> Result<u32, Fault>
+    ensures { λ r. ⌜ made r (λ w. decodes w ≡ Some (Branch cond rs1 rs2 offset)) ⌝ }
+{
     word(
         Instr::Branch {
             cond,

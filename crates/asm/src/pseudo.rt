@@ -1,4 +1,11 @@
 // Names that stand for other instructions.
+ghost use mathlib.Core.Path.{_≡_};
+ghost use Rattle.std.specs.Vec.{made};
+ghost use Rattle.std.specs.declared.option.Option.the-variants.{Some, None};
+ghost use Rattle.isa.specs.declared.instr.AluOp.the-variants.{Add};
+ghost use Rattle.isa.specs.declared.instr.Instr.the-variants.{AluImm, AluReg};
+ghost use Rattle.isa.specs.Decoding.{decodes};
+ghost use Rattle.asm.specs.Constants.{Loads};
 use crate::error::Fault;
 use crate::instruction::branch;
 use crate::instruction::jump;
@@ -84,7 +91,9 @@ pub struct Words {
 }
 
 impl Words {
-    pub fn one(first: u32) -> Words {
+    pub fn one(first: u32) -> Words
+        ensures { λ r. ⌜ r .first ≡ first ⌝ ∗ ⌜ r .second ≡ None ⌝ }
+    {
         Words {
             first,
             second: None,
@@ -108,24 +117,30 @@ pub fn constant_size(s: Statement<'_>) -> Result<usize, Fault> {
 // The words of `li` and `la`, as many as `size`.
 fn constant(s: Statement<'_>, symbols: &Symbols<'_>, size: usize) -> Result<Words, Fault> {
     s.expect(2)?;
-    let rd = s.register(0)?;
-    let value = s.value(1, symbols)?;
+    load(s.register(0)?, s.value(1, symbols)?, size == 2)
+}
+
+// Loads a constant in one word, or in two if `split`.
+fn load(rd: Reg, value: u32, split: bool) -> Result<Words, Fault>
+    ensures { λ r. ⌜ made r (λ w. Loads rd value (w .first) (w .second)) ⌝ }
+{
     let imm = upper(value) << 12;
-    let high = word(Instr::Lui { rd, imm }, 1)?;
-    if size == 2 {
+    if split {
         return Ok(Words {
-            first: high,
+            first: word(Instr::Lui { rd, imm }, 1)?,
             second: Some(add_imm(rd, rd, lower(value))?),
         });
     }
-    if lower(value) == value {
-        Ok(Words::one(add_imm(rd, ZERO, value)?))
+    if imm == value && value != 0 {
+        Ok(Words::one(word(Instr::Lui { rd, imm }, 1)?))
     } else {
-        Ok(Words::one(high))
+        Ok(Words::one(add_imm(rd, ZERO, value)?))
     }
 }
 
-fn add_imm(rd: Reg, rs1: Reg, imm: u32) -> Result<u32, Fault> {
+fn add_imm(rd: Reg, rs1: Reg, imm: u32) -> Result<u32, Fault>
+    ensures { λ r. ⌜ made r (λ w. decodes w ≡ Some (AluImm Add rd rs1 imm)) ⌝ }
+{
     let op = AluOp::Add;
     word(Instr::AluImm { op, rd, rs1, imm }, 1)
 }
@@ -196,7 +211,9 @@ fn ret(s: Statement<'_>) -> Result<u32, Fault> {
     )
 }
 
-fn operation(op: AluOp, rd: Reg, rs1: Reg, rs2: Reg) -> Result<u32, Fault> {
+fn operation(op: AluOp, rd: Reg, rs1: Reg, rs2: Reg) -> Result<u32, Fault>
+    ensures { λ r. ⌜ made r (λ w. decodes w ≡ Some (AluReg op rd rs1 rs2)) ⌝ }
+{
     word(Instr::AluReg { op, rd, rs1, rs2 }, 0)
 }
 
