@@ -44,6 +44,17 @@ fn same(a: Instr, b: Instr) -> bool
             Instr::Jal { rd: r, offset: i } => same_reg(rd, r) && offset == i,
             _ => false,
         },
+        Instr::Ecall => matches!(b, Instr::Ecall),
+        Instr::AluImm { .. } | Instr::AluReg { .. } | Instr::MulDiv { .. } => same_operation(a, b),
+        _ => same_access(a, b),
+    }
+}
+
+// The same of operations.
+fn same_operation(a: Instr, b: Instr) -> bool
+    ensures { λ r. ⌜ (r ≡ true → a ≡ b) ⌝ }
+{
+    match a {
         Instr::AluImm { op, rd, rs1, imm } => match b {
             Instr::AluImm {
                 op: o,
@@ -71,8 +82,7 @@ fn same(a: Instr, b: Instr) -> bool
             } => op == o && same_reg(rd, r) && same_reg(rs1, s) && same_reg(rs2, t),
             _ => false,
         },
-        Instr::Ecall => matches!(b, Instr::Ecall),
-        _ => same_access(a, b),
+        _ => false,
     }
 }
 
@@ -81,42 +91,46 @@ fn same_access(a: Instr, b: Instr) -> bool
     ensures { λ r. ⌜ (r ≡ true → a ≡ b) ⌝ }
 {
     match a {
-        Instr::Jalr { rd, rs1, offset } => match b {
+        Instr::Jalr { rd, rs1, offset: i } => match b {
             Instr::Jalr {
                 rd: r,
                 rs1: s,
-                offset: i,
+                offset,
             } => same_reg(rd, r) && same_reg(rs1, s) && offset == i,
+            _ => false,
+        },
+        Instr::Load { rd, rs1, offset: i } => match b {
+            Instr::Load {
+                rd: r,
+                rs1: s,
+                offset,
+            } => same_reg(rd, r) && same_reg(rs1, s) && offset == i,
+            _ => false,
+        },
+        Instr::Store {
+            rs1,
+            rs2,
+            offset: i,
+        } => match b {
+            Instr::Store {
+                rs1: r,
+                rs2: s,
+                offset,
+            } => same_reg(rs1, r) && same_reg(rs2, s) && offset == i,
             _ => false,
         },
         Instr::Branch {
             cond,
             rs1,
             rs2,
-            offset,
+            offset: i,
         } => match b {
             Instr::Branch {
                 cond: c,
                 rs1: r,
                 rs2: s,
-                offset: i,
+                offset,
             } => cond == c && same_reg(rs1, r) && same_reg(rs2, s) && offset == i,
-            _ => false,
-        },
-        Instr::Load { rd, rs1, offset } => match b {
-            Instr::Load {
-                rd: r,
-                rs1: s,
-                offset: i,
-            } => same_reg(rd, r) && same_reg(rs1, s) && offset == i,
-            _ => false,
-        },
-        Instr::Store { rs1, rs2, offset } => match b {
-            Instr::Store {
-                rs1: r,
-                rs2: s,
-                offset: i,
-            } => same_reg(rs1, r) && same_reg(rs2, s) && offset == i,
             _ => false,
         },
         _ => false,

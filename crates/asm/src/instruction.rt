@@ -2,7 +2,7 @@
 ghost use mathlib.Core.Path.{_≡_};
 ghost use Rattle.std.specs.Vec.{made};
 ghost use Rattle.std.specs.declared.option.Option.the-variants.{Some};
-ghost use Rattle.isa.specs.declared.instr.Instr.the-variants.{Branch};
+ghost use Rattle.isa.specs.declared.instr.Instr.the-variants.{AluReg, Branch};
 ghost use Rattle.isa.specs.Decoding.{decodes};
 use crate::encode::encode;
 use crate::error::Fault;
@@ -45,14 +45,8 @@ pub fn instruction(
         Mnemonic::Jal => jal(s, symbols, pc),
         Mnemonic::Jalr => jalr(s, symbols),
         Mnemonic::Branch(cond) => {
-            s.expect(3)?;
-            branch(
-                cond,
-                s.register(0)?,
-                s.register(1)?,
-                s.offset(2, symbols, pc)?,
-                2,
-            )
+            let (rs1, rs2, offset) = branch_operands(s, symbols, pc)?;
+            branch(cond, rs1, rs2, offset, 2)
         }
         Mnemonic::Load => {
             let (rd, rs1, offset) = memory_operands(s, symbols)?;
@@ -65,17 +59,34 @@ pub fn instruction(
         Mnemonic::AluImm(op) => alu_imm(op, s, symbols),
         Mnemonic::AluReg(op) => {
             let (rd, rs1, rs2) = three_registers(s)?;
-            word(Instr::AluReg { op, rd, rs1, rs2 }, 2)
+            operation(op, rd, rs1, rs2)
         }
         Mnemonic::MulDiv(op) => {
             let (rd, rs1, rs2) = three_registers(s)?;
             word(Instr::MulDiv { op, rd, rs1, rs2 }, 2)
         }
-        Mnemonic::Ecall => {
-            s.expect(0)?;
-            word(Instr::Ecall, 0)
-        }
+        Mnemonic::Ecall => ecall(s),
     }
+}
+
+pub fn operation(op: AluOp, rd: Reg, rs1: Reg, rs2: Reg) -> Result<u32, Fault>
+    ensures { λ r. ⌜ made r (λ w. decodes w ≡ Some (AluReg op rd rs1 rs2)) ⌝ }
+{
+    word(Instr::AluReg { op, rd, rs1, rs2 }, 0)
+}
+
+fn ecall(s: Statement<'_>) -> Result<u32, Fault> {
+    s.expect(0)?;
+    word(Instr::Ecall, 0)
+}
+
+pub fn branch_operands(
+    s: Statement<'_>,
+    symbols: &Symbols<'_>,
+    pc: u32,
+) -> Result<(Reg, Reg, u32), Fault> {
+    s.expect(3)?;
+    Ok((s.register(0)?, s.register(1)?, s.offset(2, symbols, pc)?))
 }
 
 // `r, offset(rs1)`.

@@ -3,13 +3,15 @@ ghost use mathlib.Core.Path.{_≡_};
 ghost use Rattle.std.specs.Vec.{made};
 ghost use Rattle.std.specs.declared.option.Option.the-variants.{Some, None};
 ghost use Rattle.isa.specs.declared.instr.AluOp.the-variants.{Add};
-ghost use Rattle.isa.specs.declared.instr.Instr.the-variants.{AluImm, AluReg};
+ghost use Rattle.isa.specs.declared.instr.Instr.the-variants.{AluImm};
 ghost use Rattle.isa.specs.Decoding.{decodes};
 ghost use Rattle.asm.specs.Constants.{Loads};
 use crate::error::Fault;
 use crate::instruction::branch;
+use crate::instruction::branch_operands;
 use crate::instruction::jump;
 use crate::instruction::jump_register;
+use crate::instruction::operation;
 use crate::instruction::word;
 use crate::names::RA;
 use crate::names::ZERO;
@@ -172,25 +174,25 @@ pub fn pseudo_words(
             operation(op, rd, rs, ZERO)?
         }
         Pseudo::BranchZero(cond) => {
-            s.expect(2)?;
-            branch(cond, s.register(0)?, ZERO, s.offset(1, symbols, pc)?, 1)?
+            let (rs, offset) = zero_operands(s, symbols, pc)?;
+            branch(cond, rs, ZERO, offset, 1)?
         }
         Pseudo::ZeroBranch(cond) => {
-            s.expect(2)?;
-            branch(cond, ZERO, s.register(0)?, s.offset(1, symbols, pc)?, 1)?
+            let (rs, offset) = zero_operands(s, symbols, pc)?;
+            branch(cond, ZERO, rs, offset, 1)?
         }
         Pseudo::Swapped(cond) => {
-            s.expect(3)?;
-            branch(
-                cond,
-                s.register(1)?,
-                s.register(0)?,
-                s.offset(2, symbols, pc)?,
-                2,
-            )?
+            let (rs1, rs2, offset) = branch_operands(s, symbols, pc)?;
+            branch(cond, rs2, rs1, offset, 2)?
         }
     };
     Ok(Words::one(first))
+}
+
+// Of a branch against zero: the register and the target.
+fn zero_operands(s: Statement<'_>, symbols: &Symbols<'_>, pc: u32) -> Result<(Reg, u32), Fault> {
+    s.expect(2)?;
+    Ok((s.register(0)?, s.offset(1, symbols, pc)?))
 }
 
 fn nop(s: Statement<'_>) -> Result<u32, Fault> {
@@ -209,12 +211,6 @@ fn ret(s: Statement<'_>) -> Result<u32, Fault> {
         },
         0,
     )
-}
-
-fn operation(op: AluOp, rd: Reg, rs1: Reg, rs2: Reg) -> Result<u32, Fault>
-    ensures { λ r. ⌜ made r (λ w. decodes w ≡ Some (AluReg op rd rs1 rs2)) ⌝ }
-{
-    word(Instr::AluReg { op, rd, rs1, rs2 }, 0)
 }
 
 fn two_registers(s: Statement<'_>) -> Result<(Reg, Reg), Fault> {
