@@ -63,7 +63,7 @@ impl Cursor {
     }
 
     // Where it stands after a statement.
-    pub fn after(self, s: Statement<'_>) -> Result<Cursor, Fault> {
+    pub fn after(self, s: Statement) -> Result<Cursor, Fault> {
         match s.name {
             ".org" => {
                 s.expect(1)?;
@@ -84,7 +84,7 @@ impl Cursor {
     }
 
     // `.data address`, or `.data` to go on where the data stopped.
-    fn to_data(self, s: Statement<'_>) -> Result<Cursor, Fault> {
+    fn to_data(self, s: Statement) -> Result<Cursor, Fault> {
         let data = if s.count() == 0 {
             self.data
         } else {
@@ -103,7 +103,7 @@ impl Cursor {
 }
 
 // The only operand, a number that is a multiple of 4.
-fn fixed_address(s: Statement<'_>) -> Result<u32, Fault> {
+fn fixed_address(s: Statement) -> Result<u32, Fault> {
     match number(s.operand(0)?) {
         Ok(address) if address % 4 != 0 => Err(Fault::operand(0, Problem::Misaligned(address))),
         Ok(address) => Ok(address),
@@ -111,7 +111,7 @@ fn fixed_address(s: Statement<'_>) -> Result<u32, Fault> {
     }
 }
 
-fn instruction_size(s: Statement<'_>) -> Result<usize, Fault> {
+fn instruction_size(s: Statement) -> Result<usize, Fault> {
     match Pseudo::from_name(s.name) {
         Some(Pseudo::Li) => constant_size(s),
         Some(Pseudo::La) => Ok(2),

@@ -27,12 +27,7 @@ pub fn word(instr: Instr, place: usize) -> Result<u32, Fault>
     }
 }
 
-pub fn instruction(
-    m: Mnemonic,
-    s: Statement<'_>,
-    symbols: &Symbols<'_>,
-    pc: u32,
-) -> Result<u32, Fault> {
+pub fn instruction(m: Mnemonic, s: Statement, symbols: &Symbols, pc: u32) -> Result<u32, Fault> {
     match m {
         Mnemonic::Lui => {
             let (rd, imm) = upper_operands(s, symbols)?;
@@ -75,35 +70,31 @@ pub fn operation(op: AluOp, rd: Reg, rs1: Reg, rs2: Reg) -> Result<u32, Fault>
     word(Instr::AluReg { op, rd, rs1, rs2 }, 0)
 }
 
-fn ecall(s: Statement<'_>) -> Result<u32, Fault> {
+fn ecall(s: Statement) -> Result<u32, Fault> {
     s.expect(0)?;
     word(Instr::Ecall, 0)
 }
 
-pub fn branch_operands(
-    s: Statement<'_>,
-    symbols: &Symbols<'_>,
-    pc: u32,
-) -> Result<(Reg, Reg, u32), Fault> {
+pub fn branch_operands(s: Statement, symbols: &Symbols, pc: u32) -> Result<(Reg, Reg, u32), Fault> {
     s.expect(3)?;
     Ok((s.register(0)?, s.register(1)?, s.offset(2, symbols, pc)?))
 }
 
 // `r, offset(rs1)`.
-fn memory_operands(s: Statement<'_>, symbols: &Symbols<'_>) -> Result<(Reg, Reg, u32), Fault> {
+fn memory_operands(s: Statement, symbols: &Symbols) -> Result<(Reg, Reg, u32), Fault> {
     s.expect(2)?;
     let r = s.register(0)?;
     let (rs1, offset) = s.address(1, symbols)?;
     Ok((r, rs1, offset))
 }
 
-fn three_registers(s: Statement<'_>) -> Result<(Reg, Reg, Reg), Fault> {
+fn three_registers(s: Statement) -> Result<(Reg, Reg, Reg), Fault> {
     s.expect(3)?;
     Ok((s.register(0)?, s.register(1)?, s.register(2)?))
 }
 
 // Of `lui` and `auipc`: a register and 20 bits.
-fn upper_operands(s: Statement<'_>, symbols: &Symbols<'_>) -> Result<(Reg, u32), Fault> {
+fn upper_operands(s: Statement, symbols: &Symbols) -> Result<(Reg, u32), Fault> {
     s.expect(2)?;
     let rd = s.register(0)?;
     let number = s.value(1, symbols)?;
@@ -114,7 +105,7 @@ fn upper_operands(s: Statement<'_>, symbols: &Symbols<'_>) -> Result<(Reg, u32),
 }
 
 // `jal rd, target` or `jal target`, which puts the return address into `ra`.
-fn jal(s: Statement<'_>, symbols: &Symbols<'_>, pc: u32) -> Result<u32, Fault> {
+fn jal(s: Statement, symbols: &Symbols, pc: u32) -> Result<u32, Fault> {
     if s.count() < 2 {
         return jump(RA, s, symbols, pc);
     }
@@ -125,14 +116,14 @@ fn jal(s: Statement<'_>, symbols: &Symbols<'_>, pc: u32) -> Result<u32, Fault> {
 }
 
 // A jump to the only operand.
-pub fn jump(rd: Reg, s: Statement<'_>, symbols: &Symbols<'_>, pc: u32) -> Result<u32, Fault> {
+pub fn jump(rd: Reg, s: Statement, symbols: &Symbols, pc: u32) -> Result<u32, Fault> {
     s.expect(1)?;
     let offset = s.offset(0, symbols, pc)?;
     word(Instr::Jal { rd, offset }, 0)
 }
 
 // `jalr rd, offset(rs1)`, `jalr rd, rs1, offset` or `jalr rs1`, which puts the return address into `ra`.
-fn jalr(s: Statement<'_>, symbols: &Symbols<'_>) -> Result<u32, Fault> {
+fn jalr(s: Statement, symbols: &Symbols) -> Result<u32, Fault> {
     match s.count() {
         0 | 1 => jump_register(RA, s),
         2 => {
@@ -150,7 +141,7 @@ fn jalr(s: Statement<'_>, symbols: &Symbols<'_>) -> Result<u32, Fault> {
 }
 
 // A jump to the address in the only operand.
-pub fn jump_register(rd: Reg, s: Statement<'_>) -> Result<u32, Fault> {
+pub fn jump_register(rd: Reg, s: Statement) -> Result<u32, Fault> {
     s.expect(1)?;
     let rs1 = s.register(0)?;
     word(Instr::Jalr { rd, rs1, offset: 0 }, 0)
@@ -171,7 +162,7 @@ pub fn branch(cond: Cond, rs1: Reg, rs2: Reg, offset: u32, place: usize) -> Resu
 }
 
 // A shift to the right that keeps the sign has bit 10 of its immediate set.
-fn alu_imm(op: AluOp, s: Statement<'_>, symbols: &Symbols<'_>) -> Result<u32, Fault> {
+fn alu_imm(op: AluOp, s: Statement, symbols: &Symbols) -> Result<u32, Fault> {
     s.expect(3)?;
     let (rd, rs1) = (s.register(0)?, s.register(1)?);
     let number = s.value(2, symbols)?;

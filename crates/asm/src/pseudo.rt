@@ -104,7 +104,7 @@ impl Words {
 }
 
 // How many words `li` takes: one if half of the value is enough, and it is a number, known before any label.
-pub fn constant_size(s: Statement<'_>) -> Result<usize, Fault> {
+pub fn constant_size(s: Statement) -> Result<usize, Fault> {
     let text = s.operand(1)?;
     if !is_number(text) {
         return Ok(2);
@@ -117,7 +117,7 @@ pub fn constant_size(s: Statement<'_>) -> Result<usize, Fault> {
 }
 
 // The words of `li` and `la`, as many as `size`.
-fn constant(s: Statement<'_>, symbols: &Symbols<'_>, size: usize) -> Result<Words, Fault> {
+fn constant(s: Statement, symbols: &Symbols, size: usize) -> Result<Words, Fault> {
     s.expect(2)?;
     load(s.register(0)?, s.value(1, symbols)?, size == 2)
 }
@@ -147,12 +147,7 @@ fn add_imm(rd: Reg, rs1: Reg, imm: u32) -> Result<u32, Fault>
     word(Instr::AluImm { op, rd, rs1, imm }, 1)
 }
 
-pub fn pseudo_words(
-    p: Pseudo,
-    s: Statement<'_>,
-    symbols: &Symbols<'_>,
-    pc: u32,
-) -> Result<Words, Fault> {
+pub fn pseudo_words(p: Pseudo, s: Statement, symbols: &Symbols, pc: u32) -> Result<Words, Fault> {
     let first = match p {
         Pseudo::Nop => nop(s)?,
         Pseudo::Ret => ret(s)?,
@@ -190,17 +185,17 @@ pub fn pseudo_words(
 }
 
 // Of a branch against zero: the register and the target.
-fn zero_operands(s: Statement<'_>, symbols: &Symbols<'_>, pc: u32) -> Result<(Reg, u32), Fault> {
+fn zero_operands(s: Statement, symbols: &Symbols, pc: u32) -> Result<(Reg, u32), Fault> {
     s.expect(2)?;
     Ok((s.register(0)?, s.offset(1, symbols, pc)?))
 }
 
-fn nop(s: Statement<'_>) -> Result<u32, Fault> {
+fn nop(s: Statement) -> Result<u32, Fault> {
     s.expect(0)?;
     add_imm(ZERO, ZERO, 0)
 }
 
-fn ret(s: Statement<'_>) -> Result<u32, Fault> {
+fn ret(s: Statement) -> Result<u32, Fault> {
     s.expect(0)?;
     let offset = 0;
     word(
@@ -213,7 +208,7 @@ fn ret(s: Statement<'_>) -> Result<u32, Fault> {
     )
 }
 
-fn two_registers(s: Statement<'_>) -> Result<(Reg, Reg), Fault> {
+fn two_registers(s: Statement) -> Result<(Reg, Reg), Fault> {
     s.expect(2)?;
     Ok((s.register(0)?, s.register(1)?))
 }
