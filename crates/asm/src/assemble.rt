@@ -18,6 +18,7 @@ pub fn assemble<'a>(heap: Global, text: &'a str) -> Result<Program, AsmError<'a>
     finish(heap, out, text)
 }
 
+// The program, once all words are placed.
 pub fn finish<'a>(heap: Global, out: Output, text: &'a str) -> Result<Program, AsmError<'a>> {
     match out.program(heap) {
         Ok(program) => Ok(program),

@@ -27,6 +27,7 @@ pub fn word(instr: Instr, place: usize) -> Result<u32, Fault>
     }
 }
 
+// The word of a statement whose name is the mnemonic.
 pub fn instruction(m: Mnemonic, s: Statement, symbols: &Symbols, pc: u32) -> Result<u32, Fault> {
     match m {
         Mnemonic::Lui => {

@@ -60,6 +60,7 @@ impl Output {
         cursor.after(s)
     }
 
+    // Puts a word at the cursor, where none may be yet.
     pub fn place(&mut self, cursor: Cursor, word: u32) -> Result<(), Fault> {
         let address = cursor.address();
         let old = if cursor.in_data {

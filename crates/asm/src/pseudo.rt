@@ -147,6 +147,7 @@ fn add_imm(rd: Reg, rs1: Reg, imm: u32) -> Result<u32, Fault>
     word(Instr::AluImm { op, rd, rs1, imm }, 1)
 }
 
+// The words of a statement whose name is the pseudo-instruction.
 pub fn pseudo_words(p: Pseudo, s: Statement, symbols: &Symbols, pc: u32) -> Result<Words, Fault> {
     let first = match p {
         Pseudo::Nop => nop(s)?,

@@ -1,11 +1,13 @@
 // Runs the assembler, the disassembler and the hex reader on the files of data/, and prints what they give.
 use asm::assemble::assemble;
+use asm::encode::encode;
 use asm::error::AsmErrorDisplay;
 use asm::hex::read_hex;
 use asm::listing::Listing;
 use asm::listing::ListingDisplay;
 use asm::program::Placed;
 use asm::program::Program;
+use isa::decode::decode;
 use std::alloc::Global;
 use std::error::AnyError;
 use std::fs;
@@ -75,6 +77,29 @@ fn again(heap: Global, placed: Placed) -> Result<bool, AnyError> {
     }
 }
 
+const OPCODES: [u32; 9] = [0x37, 0x17, 0x6f, 0x67, 0x63, 0x03, 0x23, 0x13, 0x33];
+
+// Words of a generator: what decodes is encoded to the same word, and every hundredth comes back from its listing.
+fn sweep(rt: &LibcRuntime) -> Result<(), AnyError> {
+    let mut seed = 1u32;
+    let mut instructions = 0u32;
+    let mut wrong = 0u32;
+    for i in 0..1_000_000u32 {
+        seed = seed.wrapping_mul(1_664_525).wrapping_add(1_013_904_223);
+        let word = (seed ^ seed >> 15) & !0x7f | OPCODES[(i % 9) as usize];
+        let address = seed.rotate_left(16) & !3;
+        if let Some(instr) = decode(word) {
+            instructions = instructions.saturating_add(1);
+            let listed = i % 100 != 0 || again(rt.alloc(), Placed { address, word })?;
+            if !listed || encode(instr) != Some(word) {
+                wrong = wrong.saturating_add(1);
+            }
+        }
+    }
+    println!(rt, "{instructions} instructions, {wrong} of them wrong")?;
+    Ok(())
+}
+
 fn show_program(rt: &LibcRuntime, program: &Program) -> Result<(), AnyError> {
     println!(rt, "start {:#x}", program.start)?;
     for p in program.code.iter() {
@@ -140,6 +165,7 @@ fn show_hex_errors(rt: &LibcRuntime) -> Result<(), AnyError> {
 
 fn run(rt: &LibcRuntime) -> Result<(), AnyError> {
     compare(rt)?;
+    sweep(rt)?;
     show_words(rt, "worked.s")?;
     show_source(rt, "worked.s")?;
     show_source(rt, "all.s")?;
