@@ -10,7 +10,7 @@ use crate::text::split_line;
 use std::alloc::Global;
 use std::collections::BTreeMap;
 
-// The program of a text, or the first thing that is wrong with it.
+// The program of a text, or what is wrong with it.
 pub fn assemble<'a>(heap: Global, text: &'a str) -> Result<Program, AsmError<'a>> {
     let symbols = find_labels(heap, text)?;
     let mut out = Output::new(heap);
@@ -18,6 +18,7 @@ pub fn assemble<'a>(heap: Global, text: &'a str) -> Result<Program, AsmError<'a>
     finish(heap, out, text)
 }
 
+// The program, once all words are placed.
 pub fn finish<'a>(heap: Global, out: Output, text: &'a str) -> Result<Program, AsmError<'a>> {
     match out.program(heap) {
         Ok(program) => Ok(program),

@@ -1,4 +1,7 @@
 // Where the words of a text go.
+ghost use mathlib.Core.Path.{_≡_};
+ghost use Prim.Native.Nat.{_+_, _*_, _%_, _^_};
+ghost use Rattle.asm.specs.Cursors.{here};
 use crate::error::Fault;
 use crate::error::Problem;
 use crate::pseudo::Pseudo;
@@ -22,7 +25,9 @@ impl Cursor {
     };
 
     // The address of the next word.
-    pub fn address(self) -> u32 {
+    pub fn address(self) -> u32
+        ensures { λ r. ⌜ r ≡ here self ⌝ }
+    {
         if self.in_data {
             self.data.unwrap_or(0)
         } else {
@@ -30,7 +35,11 @@ impl Cursor {
         }
     }
 
-    pub fn at(self, address: u32) -> Cursor {
+    // The same section, at another address.
+    pub fn at(self, address: u32) -> Cursor
+        ensures there { λ r. ⌜ here r ≡ address ⌝ }
+        ensures section { λ r. ⌜ r .«in_data» ≡ self .«in_data» ⌝ }
+    {
         if self.in_data {
             Cursor {
                 data: Some(address),
@@ -45,13 +54,16 @@ impl Cursor {
     }
 
     // Some words on; addresses go round at 2^32.
-    pub fn on(self, words: usize) -> Cursor {
-        let bytes = (words.wrapping_mul(4) & 0xffff_ffff) as u32;
+    pub fn on(self, words: usize) -> Cursor
+        ensures there { λ r. ⌜ here r ≡ (here self + 4 * words) % 2 ^ 32 ⌝ }
+        ensures section { λ r. ⌜ r .«in_data» ≡ self .«in_data» ⌝ }
+    {
+        let bytes = (words % (1 << 30)) as u32 * 4;
         self.at(self.address().wrapping_add(bytes))
     }
 
     // Where it stands after a statement.
-    pub fn after(self, s: Statement<'_>) -> Result<Cursor, Fault> {
+    pub fn after(self, s: Statement) -> Result<Cursor, Fault> {
         match s.name {
             ".org" => {
                 s.expect(1)?;
@@ -72,7 +84,7 @@ impl Cursor {
     }
 
     // `.data address`, or `.data` to go on where the data stopped.
-    fn to_data(self, s: Statement<'_>) -> Result<Cursor, Fault> {
+    fn to_data(self, s: Statement) -> Result<Cursor, Fault> {
         let data = if s.count() == 0 {
             self.data
         } else {
@@ -91,7 +103,7 @@ impl Cursor {
 }
 
 // The only operand, a number that is a multiple of 4.
-fn fixed_address(s: Statement<'_>) -> Result<u32, Fault> {
+fn fixed_address(s: Statement) -> Result<u32, Fault> {
     match number(s.operand(0)?) {
         Ok(address) if address % 4 != 0 => Err(Fault::operand(0, Problem::Misaligned(address))),
         Ok(address) => Ok(address),
@@ -99,7 +111,7 @@ fn fixed_address(s: Statement<'_>) -> Result<u32, Fault> {
     }
 }
 
-fn instruction_size(s: Statement<'_>) -> Result<usize, Fault> {
+fn instruction_size(s: Statement) -> Result<usize, Fault> {
     match Pseudo::from_name(s.name) {
         Some(Pseudo::Li) => constant_size(s),
         Some(Pseudo::La) => Ok(2),

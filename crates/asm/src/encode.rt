@@ -44,6 +44,18 @@ fn same(a: Instr, b: Instr) -> bool
             Instr::Jal { rd: r, offset: i } => same_reg(rd, r) && offset == i,
             _ => false,
         },
+        Instr::Ecall => matches!(b, Instr::Ecall),
+        Instr::AluImm { .. } | Instr::AluReg { .. } | Instr::MulDiv { .. } => same_operation(a, b),
+        Instr::Jalr { .. } | Instr::Load { .. } | Instr::Store { .. } => same_access(a, b),
+        Instr::Branch { .. } => same_branch(a, b),
+    }
+}
+
+// The same of operations.
+fn same_operation(a: Instr, b: Instr) -> bool
+    ensures { λ r. ⌜ (r ≡ true → a ≡ b) ⌝ }
+{
+    match a {
         Instr::AluImm { op, rd, rs1, imm } => match b {
             Instr::AluImm {
                 op: o,
@@ -71,52 +83,64 @@ fn same(a: Instr, b: Instr) -> bool
             } => op == o && same_reg(rd, r) && same_reg(rs1, s) && same_reg(rs2, t),
             _ => false,
         },
-        Instr::Ecall => matches!(b, Instr::Ecall),
-        _ => same_access(a, b),
+        _ => false,
     }
 }
 
-// The same of jumps by a register, branches, loads and stores.
+// The same of jumps by a register, loads and stores.
 fn same_access(a: Instr, b: Instr) -> bool
     ensures { λ r. ⌜ (r ≡ true → a ≡ b) ⌝ }
 {
     match a {
-        Instr::Jalr { rd, rs1, offset } => match b {
+        Instr::Jalr { rd, rs1, offset: i } => match b {
             Instr::Jalr {
                 rd: r,
                 rs1: s,
-                offset: i,
+                offset,
             } => same_reg(rd, r) && same_reg(rs1, s) && offset == i,
             _ => false,
         },
+        Instr::Load { rd, rs1, offset: i } => match b {
+            Instr::Load {
+                rd: r,
+                rs1: s,
+                offset,
+            } => same_reg(rd, r) && same_reg(rs1, s) && offset == i,
+            _ => false,
+        },
+        Instr::Store {
+            rs1,
+            rs2,
+            offset: i,
+        } => match b {
+            Instr::Store {
+                rs1: r,
+                rs2: s,
+                offset,
+            } => same_reg(rs1, r) && same_reg(rs2, s) && offset == i,
+            _ => false,
+        },
+        _ => false,
+    }
+}
+
+// The same of branches.
+fn same_branch(a: Instr, b: Instr) -> bool
+    ensures { λ r. ⌜ (r ≡ true → a ≡ b) ⌝ }
+{
+    match a {
         Instr::Branch {
             cond,
             rs1,
             rs2,
-            offset,
+            offset: i,
         } => match b {
             Instr::Branch {
                 cond: c,
                 rs1: r,
                 rs2: s,
-                offset: i,
+                offset,
             } => cond == c && same_reg(rs1, r) && same_reg(rs2, s) && offset == i,
-            _ => false,
-        },
-        Instr::Load { rd, rs1, offset } => match b {
-            Instr::Load {
-                rd: r,
-                rs1: s,
-                offset: i,
-            } => same_reg(rd, r) && same_reg(rs1, s) && offset == i,
-            _ => false,
-        },
-        Instr::Store { rs1, rs2, offset } => match b {
-            Instr::Store {
-                rs1: r,
-                rs2: s,
-                offset: i,
-            } => same_reg(rs1, r) && same_reg(rs2, s) && offset == i,
             _ => false,
         },
         _ => false,
@@ -129,12 +153,13 @@ fn same_reg(a: Reg, b: Reg) -> bool
     a.number == b.number
 }
 
+// The word, if the immediate or offset fits.
 fn build(instr: Instr) -> u32 {
     match instr {
         Instr::Lui { rd, imm } => imm | at(rd, 7) | 0x37,
         Instr::Auipc { rd, imm } => imm | at(rd, 7) | 0x17,
         Instr::Jal { rd, offset } => jump_offset(offset) | at(rd, 7) | 0x6f,
-        Instr::Jalr { rd, rs1, offset } => immediate(offset) | at(rs1, 15) | at(rd, 7) | 0x67,
+        Instr::Jalr { rd, rs1, offset } => offset << 20 | at(rs1, 15) | at(rd, 7) | 0x67,
         Instr::Branch {
             cond,
             rs1,
@@ -142,13 +167,13 @@ fn build(instr: Instr) -> u32 {
             offset,
         } => { branch_offset(offset) | at(rs2, 20) | at(rs1, 15) | cond_funct3(cond) << 12 | 0x63 }
         Instr::Load { rd, rs1, offset } => {
-            immediate(offset) | at(rs1, 15) | 2 << 12 | at(rd, 7) | 0x03
+            offset << 20 | at(rs1, 15) | 2 << 12 | at(rd, 7) | 0x03
         }
         Instr::Store { rs1, rs2, offset } => {
             store_offset(offset) | at(rs2, 20) | at(rs1, 15) | 2 << 12 | 0x23
         }
         Instr::AluImm { op, rd, rs1, imm } => {
-            immediate(imm) | at(rs1, 15) | alu_funct3(op) << 12 | at(rd, 7) | 0x13
+            imm << 20 | at(rs1, 15) | alu_funct3(op) << 12 | at(rd, 7) | 0x13
         }
         Instr::AluReg { op, rd, rs1, rs2 } => {
             alu_funct7(op) << 25
@@ -168,11 +193,6 @@ fn build(instr: Instr) -> u32 {
 // A register's number, moved to its field.
 fn at(reg: Reg, low: u32) -> u32 {
     (reg.number as u32).wrapping_shl(low)
-}
-
-// The immediate of loads, `jalr` and operations.
-fn immediate(x: u32) -> u32 {
-    x << 20
 }
 
 fn store_offset(x: u32) -> u32 {

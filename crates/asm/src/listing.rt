@@ -27,6 +27,8 @@ pub impl fmt::Display for Listing as ListingDisplay {
 }
 
 fn write_operands<W: fmt::Write>(f: &mut fmt::Formatter<W>, instr: Instr, pc: u32) -> fmt::Result {
+    let rs1 = register_name(instr.rs1());
+    let rs2 = register_name(instr.rs2());
     match instr {
         Instr::Lui { rd, imm } | Instr::Auipc { rd, imm } => {
             write!(f, " {}, {:#x}", register_name(rd), imm >> 12)
@@ -34,55 +36,18 @@ fn write_operands<W: fmt::Write>(f: &mut fmt::Formatter<W>, instr: Instr, pc: u3
         Instr::Jal { rd, offset } => {
             write!(f, " {}, {:#x}", register_name(rd), pc.wrapping_add(offset))
         }
-        Instr::Branch {
-            rs1,
-            rs2,
-            offset,
-            ..
-        } => {
-            write!(
-                f,
-                " {}, {}, {:#x}",
-                register_name(rs1),
-                register_name(rs2),
-                pc.wrapping_add(offset)
-            )
+        Instr::Branch { offset, .. } => {
+            write!(f, " {rs1}, {rs2}, {:#x}", pc.wrapping_add(offset))
         }
-        Instr::Jalr { rd, rs1, offset } | Instr::Load { rd, rs1, offset } => {
-            write!(
-                f,
-                " {}, {}({})",
-                register_name(rd),
-                offset.cast_signed(),
-                register_name(rs1)
-            )
+        Instr::Jalr { rd, offset, .. } | Instr::Load { rd, offset, .. } => {
+            write!(f, " {}, {}({rs1})", register_name(rd), offset.cast_signed())
         }
-        Instr::Store { rs1, rs2, offset } => {
-            write!(
-                f,
-                " {}, {}({})",
-                register_name(rs2),
-                offset.cast_signed(),
-                register_name(rs1)
-            )
+        Instr::Store { offset, .. } => write!(f, " {rs2}, {}({rs1})", offset.cast_signed()),
+        Instr::AluImm { op, rd, imm, .. } => {
+            write!(f, " {}, {rs1}, {}", register_name(rd), operand(op, imm))
         }
-        Instr::AluImm { op, rd, rs1, imm } => {
-            write!(
-                f,
-                " {}, {}, {}",
-                register_name(rd),
-                register_name(rs1),
-                operand(op, imm)
-            )
-        }
-        Instr::AluReg { rd, rs1, rs2, .. } | Instr::MulDiv { rd, rs1, rs2, .. } => {
-            write!(
-                f,
-                " {}, {}, {}",
-                register_name(rd),
-                register_name(rs1),
-                register_name(rs2)
-            )
+        Instr::AluReg { rd, .. } | Instr::MulDiv { rd, .. } => {
+            write!(f, " {}, {rs1}, {rs2}", register_name(rd))
         }
         Instr::Ecall => Ok(()),
     }

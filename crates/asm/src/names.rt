@@ -1,5 +1,8 @@
 // Names of registers and instructions.
+ghost use mathlib.Core.List.{[]};
 ghost use mathlib.Core.Path.{_≡_};
+ghost use lib.ListN.{getD};
+ghost use Rattle.asm.specs.Names.{names};
 use isa::instr::AluOp;
 use isa::instr::AluOpPartialEq;
 use isa::instr::Cond;
@@ -50,7 +53,9 @@ static REGISTERS: [&str; 32] = [
 ];
 
 // The name that the calling convention gives a register.
-pub fn register_name(reg: Reg) -> &'static str {
+pub fn register_name(reg: Reg) -> &'static str
+    ensures { λ r. ⌜ now r ≡ getD names (reg .number) [] ⌝ }
+{
     REGISTERS[reg.number as usize]
 }
 

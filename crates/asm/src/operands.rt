@@ -69,7 +69,7 @@ impl<'a> Statement<'a> {
         }
     }
 
-    pub fn value(self, place: usize, symbols: &Symbols<'_>) -> Result<u32, Fault> {
+    pub fn value(self, place: usize, symbols: &Symbols) -> Result<u32, Fault> {
         match value(symbols, self.operand(place)?) {
             Ok(n) => Ok(n),
             Err(problem) => Err(Fault::operand(place, problem)),
@@ -77,12 +77,12 @@ impl<'a> Statement<'a> {
     }
 
     // How far a target lies from `pc`.
-    pub fn offset(self, place: usize, symbols: &Symbols<'_>, pc: u32) -> Result<u32, Fault> {
+    pub fn offset(self, place: usize, symbols: &Symbols, pc: u32) -> Result<u32, Fault> {
         Ok(self.value(place, symbols)?.wrapping_sub(pc))
     }
 
     // The register and the offset of an operand `offset(register)`, where no offset is 0.
-    pub fn address(self, place: usize, symbols: &Symbols<'_>) -> Result<(Reg, u32), Fault> {
+    pub fn address(self, place: usize, symbols: &Symbols) -> Result<(Reg, u32), Fault> {
         let Some((offset, rest)) = self.operand(place)?.rsplit_once('(') else {
             return Err(Fault::operand(place, Problem::BadAddress));
         };

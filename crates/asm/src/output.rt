@@ -40,8 +40,8 @@ impl Output {
     // Does what a statement says at the cursor, and answers where the next one stands.
     pub fn add(
         &mut self,
-        s: Statement<'_>,
-        symbols: &Symbols<'_>,
+        s: Statement,
+        symbols: &Symbols,
         cursor: Cursor,
     ) -> Result<Cursor, Fault> {
         match s.name {
@@ -60,11 +60,12 @@ impl Output {
         cursor.after(s)
     }
 
+    // Puts a word at the cursor, where none may be yet.
     pub fn place(&mut self, cursor: Cursor, word: u32) -> Result<(), Fault> {
         let address = cursor.address();
         let old = if cursor.in_data {
             if address >= 1 << 31 {
-                return Err(Fault::name(Problem::NotInData(address)));
+                return Err(Fault::name(Problem::DeviceAddress(address)));
             }
             self.data.insert(address, word)?
         } else {
@@ -79,12 +80,7 @@ impl Output {
         }
     }
 
-    fn add_words(
-        &mut self,
-        s: Statement<'_>,
-        symbols: &Symbols<'_>,
-        cursor: Cursor,
-    ) -> Result<(), Fault> {
+    fn add_words(&mut self, s: Statement, symbols: &Symbols, cursor: Cursor) -> Result<(), Fault> {
         s.expect_some()?;
         for i in 0..s.count() {
             self.place(cursor.on(i), s.value(i, symbols)?)?;
@@ -92,7 +88,7 @@ impl Output {
         Ok(())
     }
 
-    fn add_answers(&mut self, s: Statement<'_>, symbols: &Symbols<'_>) -> Result<(), Fault> {
+    fn add_answers(&mut self, s: Statement, symbols: &Symbols) -> Result<(), Fault> {
         s.expect_some()?;
         for i in 0..s.count() {
             self.answers.push(s.value(i, symbols)?)?;
@@ -100,7 +96,7 @@ impl Output {
         Ok(())
     }
 
-    fn set_start(&mut self, s: Statement<'_>, symbols: &Symbols<'_>) -> Result<(), Fault> {
+    fn set_start(&mut self, s: Statement, symbols: &Symbols) -> Result<(), Fault> {
         s.expect(1)?;
         let address = s.value(0, symbols)?;
         if address % 4 != 0 {
@@ -143,7 +139,7 @@ fn placed(heap: Global, words: &BTreeMap<u32, u32>) -> Result<Vec<Placed>, Alloc
 }
 
 // The words of an instruction.
-fn words(s: Statement<'_>, symbols: &Symbols<'_>, cursor: Cursor) -> Result<Words, Fault> {
+fn words(s: Statement, symbols: &Symbols, cursor: Cursor) -> Result<Words, Fault> {
     if s.name.starts_with('.') {
         return Err(Fault::name(Problem::UnknownDirective));
     }

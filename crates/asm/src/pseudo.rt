@@ -1,8 +1,17 @@
 // Names that stand for other instructions.
+ghost use mathlib.Core.Path.{_≡_};
+ghost use Rattle.std.specs.Vec.{made};
+ghost use Rattle.std.specs.declared.option.Option.the-variants.{Some, None};
+ghost use Rattle.isa.specs.declared.instr.AluOp.the-variants.{Add};
+ghost use Rattle.isa.specs.declared.instr.Instr.the-variants.{AluImm};
+ghost use Rattle.isa.specs.Decoding.{decodes};
+ghost use Rattle.asm.specs.Constants.{Loads};
 use crate::error::Fault;
 use crate::instruction::branch;
+use crate::instruction::branch_operands;
 use crate::instruction::jump;
 use crate::instruction::jump_register;
+use crate::instruction::operation;
 use crate::instruction::word;
 use crate::names::RA;
 use crate::names::ZERO;
@@ -84,7 +93,9 @@ pub struct Words {
 }
 
 impl Words {
-    pub fn one(first: u32) -> Words {
+    pub fn one(first: u32) -> Words
+        ensures { λ r. ⌜ r .first ≡ first ⌝ ∗ ⌜ r .second ≡ None ⌝ }
+    {
         Words {
             first,
             second: None,
@@ -93,7 +104,7 @@ impl Words {
 }
 
 // How many words `li` takes: one if half of the value is enough, and it is a number, known before any label.
-pub fn constant_size(s: Statement<'_>) -> Result<usize, Fault> {
+pub fn constant_size(s: Statement) -> Result<usize, Fault> {
     let text = s.operand(1)?;
     if !is_number(text) {
         return Ok(2);
@@ -106,36 +117,38 @@ pub fn constant_size(s: Statement<'_>) -> Result<usize, Fault> {
 }
 
 // The words of `li` and `la`, as many as `size`.
-fn constant(s: Statement<'_>, symbols: &Symbols<'_>, size: usize) -> Result<Words, Fault> {
+fn constant(s: Statement, symbols: &Symbols, size: usize) -> Result<Words, Fault> {
     s.expect(2)?;
-    let rd = s.register(0)?;
-    let value = s.value(1, symbols)?;
+    load(s.register(0)?, s.value(1, symbols)?, size == 2)
+}
+
+// Loads a constant in one word, or in two if `split`.
+fn load(rd: Reg, value: u32, split: bool) -> Result<Words, Fault>
+    ensures { λ r. ⌜ made r (λ w. Loads rd value (w .first) (w .second)) ⌝ }
+{
     let imm = upper(value) << 12;
-    let high = word(Instr::Lui { rd, imm }, 1)?;
-    if size == 2 {
+    if split {
         return Ok(Words {
-            first: high,
+            first: word(Instr::Lui { rd, imm }, 1)?,
             second: Some(add_imm(rd, rd, lower(value))?),
         });
     }
-    if lower(value) == value {
-        Ok(Words::one(add_imm(rd, ZERO, value)?))
+    if imm == value && value != 0 {
+        Ok(Words::one(word(Instr::Lui { rd, imm }, 1)?))
     } else {
-        Ok(Words::one(high))
+        Ok(Words::one(add_imm(rd, ZERO, value)?))
     }
 }
 
-fn add_imm(rd: Reg, rs1: Reg, imm: u32) -> Result<u32, Fault> {
+fn add_imm(rd: Reg, rs1: Reg, imm: u32) -> Result<u32, Fault>
+    ensures { λ r. ⌜ made r (λ w. decodes w ≡ Some (AluImm Add rd rs1 imm)) ⌝ }
+{
     let op = AluOp::Add;
     word(Instr::AluImm { op, rd, rs1, imm }, 1)
 }
 
-pub fn pseudo_words(
-    p: Pseudo,
-    s: Statement<'_>,
-    symbols: &Symbols<'_>,
-    pc: u32,
-) -> Result<Words, Fault> {
+// The words of a statement whose name is the pseudo-instruction.
+pub fn pseudo_words(p: Pseudo, s: Statement, symbols: &Symbols, pc: u32) -> Result<Words, Fault> {
     let first = match p {
         Pseudo::Nop => nop(s)?,
         Pseudo::Ret => ret(s)?,
@@ -157,33 +170,33 @@ pub fn pseudo_words(
             operation(op, rd, rs, ZERO)?
         }
         Pseudo::BranchZero(cond) => {
-            s.expect(2)?;
-            branch(cond, s.register(0)?, ZERO, s.offset(1, symbols, pc)?, 1)?
+            let (rs, offset) = zero_operands(s, symbols, pc)?;
+            branch(cond, rs, ZERO, offset, 1)?
         }
         Pseudo::ZeroBranch(cond) => {
-            s.expect(2)?;
-            branch(cond, ZERO, s.register(0)?, s.offset(1, symbols, pc)?, 1)?
+            let (rs, offset) = zero_operands(s, symbols, pc)?;
+            branch(cond, ZERO, rs, offset, 1)?
         }
         Pseudo::Swapped(cond) => {
-            s.expect(3)?;
-            branch(
-                cond,
-                s.register(1)?,
-                s.register(0)?,
-                s.offset(2, symbols, pc)?,
-                2,
-            )?
+            let (rs1, rs2, offset) = branch_operands(s, symbols, pc)?;
+            branch(cond, rs2, rs1, offset, 2)?
         }
     };
     Ok(Words::one(first))
 }
 
-fn nop(s: Statement<'_>) -> Result<u32, Fault> {
+// Of a branch against zero: the register and the target.
+fn zero_operands(s: Statement, symbols: &Symbols, pc: u32) -> Result<(Reg, u32), Fault> {
+    s.expect(2)?;
+    Ok((s.register(0)?, s.offset(1, symbols, pc)?))
+}
+
+fn nop(s: Statement) -> Result<u32, Fault> {
     s.expect(0)?;
     add_imm(ZERO, ZERO, 0)
 }
 
-fn ret(s: Statement<'_>) -> Result<u32, Fault> {
+fn ret(s: Statement) -> Result<u32, Fault> {
     s.expect(0)?;
     let offset = 0;
     word(
@@ -196,11 +209,7 @@ fn ret(s: Statement<'_>) -> Result<u32, Fault> {
     )
 }
 
-fn operation(op: AluOp, rd: Reg, rs1: Reg, rs2: Reg) -> Result<u32, Fault> {
-    word(Instr::AluReg { op, rd, rs1, rs2 }, 0)
-}
-
-fn two_registers(s: Statement<'_>) -> Result<(Reg, Reg), Fault> {
+fn two_registers(s: Statement) -> Result<(Reg, Reg), Fault> {
     s.expect(2)?;
     Ok((s.register(0)?, s.register(1)?))
 }

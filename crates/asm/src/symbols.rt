@@ -42,7 +42,7 @@ pub fn define<'a>(
 }
 
 // The value of an operand: a number, a label's address, or `%hi(label)` or `%lo(label)`.
-pub fn value(symbols: &Symbols<'_>, text: &str) -> Result<u32, Problem> {
+pub fn value(symbols: &Symbols, text: &str) -> Result<u32, Problem> {
     if is_number(text) {
         return number(text);
     }
@@ -59,7 +59,7 @@ fn inside<'a>(text: &'a str, front: &str) -> Option<&'a str> {
     text.strip_prefix(front)?.strip_suffix(')')
 }
 
-fn address_of(symbols: &Symbols<'_>, name: &str) -> Result<u32, Problem> {
+fn address_of(symbols: &Symbols, name: &str) -> Result<u32, Problem> {
     match symbols.get(name) {
         Some(address) => Ok(*address),
         None => Err(Problem::UndefinedLabel),

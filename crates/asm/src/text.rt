@@ -42,7 +42,7 @@ pub fn before<'a>(text: &'a str, mark: &str) -> &'a str {
 fn split_statement<'a>(text: &'a str) -> Option<Statement<'a>> {
     let text = text.trim();
     let name = text.split_whitespace().next()?;
-    let operands = text.strip_prefix(name)?.trim();
+    let operands = text.strip_prefix(name).unwrap_or(text).trim();
     Some(Statement { name, operands })
 }
 
