@@ -54,9 +54,7 @@ fn write_register<W: fmt::Write>(
     match reg {
         0 => Ok(()),
         1..=31 => {
-            let name = register_name(Reg {
-                number: reg as u8,
-            });
+            let name = register_name(Reg { number: reg as u8 });
             write!(f, "{before}{name} = {value}")
         }
         _ => write!(f, "{before}x{reg} = {value}"),
@@ -70,7 +68,7 @@ pub impl fmt::Display for Shown<Effect> as EffectDisplay {
                 let value = Word(value);
                 write!(f, "write {address:#010x} <- {value}")
             }
-            Effect::Ask { address } => write!(f, "ask   {address:#010x}"),
+            Effect::Ask { address } => write!(f, "ask {address:#010x}"),
         }
     }
 }

@@ -3,14 +3,16 @@ use crate::effects::effect_of;
 use crate::failure::Failure;
 use crate::failure::FailureFromAlloc;
 use crate::failure::FailureFromIo;
-use crate::lines::EffectDisplay;
 use crate::lines::Shown;
 use crate::lines::StopDisplay;
+use crate::lines::Word;
+use crate::lines::WordDisplay;
 use crate::lines::instruction;
 use crate::session::Clock;
 use crate::session::Session;
 use crate::summary::Summary;
 use reference::memory::Memory;
+use reference::trace::Effect;
 
 // Runs until it stops, or up to a number of clocks, and shows the clocks from `from` on.
 pub fn trace(
@@ -50,11 +52,21 @@ fn show(rt: &LibcRuntime, code: &Memory, clock: &Clock) -> Result<(), Failure> {
 // Writes and reads of devices.
 fn show_request(rt: &LibcRuntime, clock: &Clock) -> Result<(), Failure> {
     let number = clock.number;
-    if let Some(request) = clock.outputs.request
-        && let Some(effect) = effect_of(request)
-    {
-        let effect = Shown(effect);
-        println!(rt, "clock {number:>6}              {effect}")?;
+    let Some(request) = clock.outputs.request else {
+        return Ok(());
+    };
+    match effect_of(request) {
+        Some(Effect::Write { address, value }) => {
+            let value = Word(value);
+            println!(
+                rt,
+                "clock {number:>6}              write {address:#010x} <- {value}"
+            )?;
+        }
+        Some(Effect::Ask { address }) => {
+            println!(rt, "clock {number:>6}              ask   {address:#010x}")?;
+        }
+        None => {}
     }
     Ok(())
 }

@@ -1,0 +1,11 @@
+// Shows the checker what a core must not do, and what it says of it.
+mod cases;
+mod history;
+
+use bench::failure::Failure;
+use bench::failure::report;
+
+fn main(rt: LibcRuntime) -> Result<(), Failure> {
+    let result = cases::show_all(&rt);
+    report(&rt, "bench_tests", result)
+}
