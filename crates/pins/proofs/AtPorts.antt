@@ -43,7 +43,7 @@ rets-back (suc (suc (suc zero))) l h = refl
 rets-back (suc (suc (suc (suc zero)))) l h = refl
 rets-back (suc (suc (suc (suc (suc n))))) l h = absurd (omega arith)
 
-out-same : {a a′ b b′ : Opt ℕ} {r r′ : Opt Req} {t t′ : List Ret} → a ≡ a′ → r ≡ r′ → t ≡ t′ → b ≡ b′
+pub out-same : {a a′ b b′ : Opt ℕ} {r r′ : Opt Req} {t t′ : List Ret} → a ≡ a′ → r ≡ r′ → t ≡ t′ → b ≡ b′
     → _≡_ {A = Out} (record { code = a; data1 = r; rets = t; stopped = b }) (record { code = a′; data1 = r′; rets = t′; stopped = b′ })
 out-same p q e f = λ i. record { code = p i; data1 = q i; rets = e i; stopped = f i }
 

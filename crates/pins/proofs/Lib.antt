@@ -12,3 +12,4 @@ pub mod Reaching
 pub mod Invariants
 pub mod Calls
 pub mod Progressing
+pub mod ReadBack

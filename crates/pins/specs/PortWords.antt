@@ -1,16 +1,17 @@
 -- The code's inputs and outputs as the ports' words, and as what the ports show.
 use mathlib.Core.Path.{_≡_}
-use mathlib.Core.Bool.{Bool, true, false}
+use mathlib.Core.Bool.{Bool, true, false, _&&_, _||_}
 use mathlib.Core.List.{List, [], _∷_, _++_}
 use mathlib.Core.Option.{Option as Opt, some, none}
 use Prim.Native.Nat.{ℕ, zero, suc, _+_, min}
+use lib.Dec.{eqb, leb}
 use lib.ListN.{length, getD, replicate}
 use Rattle.std.specs.declared.option.Option.{Option}
 use Rattle.std.specs.declared.option.Option.the-variants.{Some, None}
 use Rattle.isa.specs.Manual.{Ret}
 use Rattle.isa.specs.Executing.{how}
 use Rattle.isa.specs.declared.execute.Stop.{Stop}
-use Rattle.pins.specs.Ports.{In, Out, Req, reads, writes1, in-of}
+use Rattle.pins.specs.Ports.{In, Out, Req, reads, writes1, in-of, out-of}
 use Rattle.pins.specs.declared.ports.Inputs.{Inputs}
 use Rattle.pins.specs.declared.ports.Request.{Request}
 use Rattle.pins.specs.declared.ports.Request.the-variants.{Read, Write}
@@ -61,6 +62,15 @@ done-list d = rets-from (min (d .count) 4) 0 (d .at)
 
 abbrev pub shown : Outputs → Out
 shown o = record { code = plain (o .want); data1 = request-of (o .request); rets = done-list (o .done); stopped = plain (stop-word (o .stopped)) }
+
+-- words that a core can show: sound, and how it stopped is 0, 1 or 2
+abbrev pub legal-out : List ℕ → Bool
+legal-out w = eqb (length w) 20 && (leb (getD w 0 0) 1 && (leb (getD w 2 0) 2 && (leb (getD w 5 0) 1 && (leb (getD w 7 0) 4 && (eqb (getD w 5 0) 0 || leb (getD w 6 0) 2)))))
+
+-- what is read of the words out
+abbrev pub Reads-outputs : List ℕ → Option Outputs → Type 0
+Reads-outputs w None = legal-out w ≡ false
+Reads-outputs w (Some o) = (legal-out w ≡ true) × (shown o ≡ out-of w)
 
 abbrev pub done-none : Done
 done-none = record { count = 0; at = replicate 4 no-retired }

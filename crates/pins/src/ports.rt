@@ -2,11 +2,9 @@
 ghost use Prim.Native.Nat.{ℕ, _+_, _<_, _≤_};
 ghost use mathlib.Core.Path.{_≡_};
 ghost use mathlib.Core.Bool.{true};
-ghost use lib.ListN.{length, getD};
-ghost use Rattle.std.specs.Options.{Cases};
-ghost use Rattle.isa.specs.Executing.{how};
-ghost use Rattle.pins.specs.Ports.{In, in-of, out-of, req-of, flagged, sound-out};
-ghost use Rattle.pins.specs.PortWords.{optional, inputs-of, Reads-inputs, flag-of, word-of, request-of, kind-of, address-of, value-of, stop-word, done-none, done-one, shown, port-words};
+ghost use lib.ListN.{length, getD, drop};
+ghost use Rattle.pins.specs.Ports.{In, in-of, out-of, req-of, rets-of, flagged, sound-out};
+ghost use Rattle.pins.specs.PortWords.{optional, plain, legal-out, Reads-outputs, done-list, inputs-of, Reads-inputs, flag-of, word-of, request-of, kind-of, address-of, value-of, stop-word, done-none, done-one, shown, port-words};
 use isa::execute::Stop;
 
 // What is given in a clock: a word of code, an answer to a request.
@@ -155,40 +153,59 @@ fn retired_at(outs: &[u32], place: usize) -> Retired
     }
 }
 
-fn stop_of(code: u32) -> Option<Stop>
-    ensures { λ r. ⌜ Cases r (2 < code) (λ h. how h ≡ code) ⌝ }
+fn stop_of(flag: u32, code: u32) -> Option<Stop>
+    ensures { λ r. ⌜ ((flag ≡ 1 → code ≤ 2) → plain (stop-word r) ≡ flagged flag code) ⌝ }
 {
+    if flag != 1 {
+        return None;
+    }
     match code {
         0 => Some(Stop::EnvCall),
         1 => Some(Stop::Illegal),
-        2 => Some(Stop::Misaligned),
-        _ => None,
+        _ => Some(Stop::Misaligned),
     }
 }
 
+fn done_of(outs: &[u32]) -> Done
+    requires { ⌜ length (now outs) ≡ 20 ⌝ }
+    ensures { λ r. ⌜ (getD (now (outs .entry)) 7 0 ≤ 4 → done-list r ≡ rets-of (getD (now (outs .entry)) 7 0) (drop 8 (now (outs .entry)))) ⌝ }
+{
+    Done {
+        count: outs[7],
+        at: [
+            retired_at(outs, 8),
+            retired_at(outs, 11),
+            retired_at(outs, 14),
+            retired_at(outs, 17),
+        ],
+    }
+}
+
+// Whether a core can show these words.
+fn is_sound(outs: &[u32]) -> bool
+    ensures { λ r. ⌜ r ≡ legal-out (now (outs .entry)) ⌝ }
+{
+    outs.len() == 20
+        && outs[0] <= 1
+        && outs[2] <= 2
+        && outs[5] <= 1
+        && outs[7] <= 4
+        && (outs[5] == 0 || outs[6] <= 2)
+}
+
 impl Outputs {
-    // From twenty words; none where they are not what a core can show.
-    pub fn read(outs: &[u32]) -> Option<Outputs> {
-        if outs.len() != 20 || outs[0] > 1 || outs[2] > 2 || outs[5] > 1 || outs[7] > 4 {
+    // From twenty words; none where no core can show them.
+    pub fn read(outs: &[u32]) -> Option<Outputs>
+        ensures { λ r. ⌜ Reads-outputs (now (outs .entry)) r ⌝ }
+    {
+        if !is_sound(outs) {
             return None;
         }
-        let stopped = match given(outs[5], outs[6]) {
-            Some(code) => Some(stop_of(code)?),
-            None => None,
-        };
         Some(Outputs {
             want: given(outs[0], outs[1]),
             request: request_of(outs[2], outs[3], outs[4]),
-            stopped,
-            done: Done {
-                count: outs[7],
-                at: [
-                    retired_at(outs, 8),
-                    retired_at(outs, 11),
-                    retired_at(outs, 14),
-                    retired_at(outs, 17),
-                ],
-            },
+            stopped: stop_of(outs[5], outs[6]),
+            done: done_of(outs),
         })
     }
 

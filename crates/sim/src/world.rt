@@ -1,4 +1,6 @@
 // Memories and devices, clock by clock.
+ghost use Rattle.std.specs.Vec.{made};
+ghost use Rattle.sim.specs.Worlds.{Fetched, Answers, Keeps-code, Keeps-data};
 use crate::delay::Delay;
 use crate::devices::Devices;
 use crate::error::WorldError;
@@ -60,13 +62,19 @@ impl World {
         Ok(Inputs { code, answer })
     }
 
-    fn fetch(&mut self) -> Option<u32> {
+    fn fetch(&mut self) -> Option<u32>
+        ensures code { λ r. ⌜ Fetched (now (self .entry)) (now (self .exit)) r ⌝ }
+        ensures rest { λ _. ⌜ Keeps-data (now (self .entry)) (now (self .exit)) ⌝ }
+    {
         let address = self.wants.pop(self.clock)?;
         Some(self.code.get(address / 4))
     }
 
     // A write may be answered by any word.
-    fn answer(&mut self, request: Request) -> Result<u32, WorldError> {
+    fn answer(&mut self, request: Request) -> Result<u32, WorldError>
+        ensures right { λ r. ⌜ made r (λ x. Answers (now (self .entry)) (now (self .exit)) request x) ⌝ }
+        ensures rest { λ _. ⌜ Keeps-code (now (self .entry)) (now (self .exit)) ⌝ }
+    {
         match request {
             Request::Read { address } if address < DEVICES => Ok(self.data.get(address / 4)),
             Request::Read { .. } => {
