@@ -10,6 +10,7 @@ use Rattle.std.specs.declared.option.Option.the-variants.{Some, None}
 use Rattle.isa.specs.Manual.{device}
 use Rattle.pins.specs.Ports.{Req, reads, writes1}
 use Rattle.pins.specs.Outside.{mem-by, told-by}
+use Rattle.pins.specs.declared.ports.Inputs.{Inputs}
 use Rattle.pins.specs.declared.ports.Request.{Request}
 use Rattle.pins.specs.declared.ports.Request.the-variants.{Read, Write}
 use Rattle.reference.specs.Memory.{words-of}
@@ -22,17 +23,24 @@ open-wants w = deque-items (w .wants .items)
 abbrev pub open-requests : World → List (Open Request)
 open-requests w = deque-items (w .requests .items)
 
--- the code and what is wanted of it stay; data, requests and what devices told stay
-abbrev pub Keeps-code : World → World → Type 0
-Keeps-code b f = (f .code ≡ b .code) × (f .wants ≡ b .wants)
+-- what stays when code is fetched, and when a request is answered
+pub record Keeps-data (b f : World) : Type 0 where
+  pub code-same : f .code ≡ b .code
+  pub data-same : f .«data» ≡ b .«data»
+  pub requests-same : f .requests ≡ b .requests
+  pub told-same : f .told ≡ b .told
+  pub clock-same : f .clock ≡ b .clock
 
-abbrev pub Keeps-data : World → World → Type 0
-Keeps-data b f = (f .«data» ≡ b .«data») × (f .requests ≡ b .requests) × (f .told ≡ b .told)
+pub record Keeps-code (b f : World) : Type 0 where
+  pub code-same : f .code ≡ b .code
+  pub wants-same : f .wants ≡ b .wants
+  pub requests-same : f .requests ≡ b .requests
+  pub clock-same : f .clock ≡ b .clock
 
--- the oldest word of code that is wanted, or none
-abbrev pub Fetched : World → World → Option ℕ → Type 0
-Fetched b f None = (f .code ≡ b .code) × (open-wants f ≡ open-wants b)
-Fetched b f (Some x) = (f .code ≡ b .code) × ((w : Open ℕ) × (open-wants b ≡ w ∷ open-wants f) × (x ≡ words-of (b .code) (w .asked / 4)))
+-- the word of code that was wanted longest, or none
+abbrev pub Fetches : World → World → Option ℕ → Type 0
+Fetches b f None = open-wants f ≡ open-wants b
+Fetches b f (Some x) = (w : Open ℕ) × (open-wants b ≡ w ∷ open-wants f) × (w .due ≤ b .clock) × (x ≡ words-of (b .code) (w .asked / 4))
 
 abbrev pub as-req : Request → Req
 as-req (Read a) = reads a
@@ -46,3 +54,15 @@ Right-word b (Write a y) x = Unit {0}
 -- an answer x to a request: the right word, with its effect on memory and on what devices told
 abbrev pub Answers : World → World → Request → ℕ → Type 0
 Answers b f q x = Right-word b q x × (words-of (f .«data») ≡ mem-by (words-of (b .«data»)) (as-req q)) × (vec-items (f .told) ≡ told-by (vec-items (b .told)) (as-req q) x)
+
+-- an answer to the oldest request, or none
+abbrev pub Replies : World → World → Option ℕ → Type 0
+Replies b f None = (open-requests f ≡ open-requests b) × (f .«data» ≡ b .«data») × (f .told ≡ b .told)
+Replies b f (Some x) = (w : Open Request) × (open-requests b ≡ w ∷ open-requests f) × (w .due ≤ b .clock) × Answers b f (w .asked) x
+
+-- the answers of a clock
+pub record Gives (b f : World) (i : Inputs) : Type 0 where
+  pub fetches : Fetches b f (i .code)
+  pub replies : Replies b f (i .answer)
+  pub code-same : f .code ≡ b .code
+  pub clock-same : f .clock ≡ b .clock

@@ -49,7 +49,7 @@ impl<T: Copy> Queue<T> {
 
     // Takes the oldest, if this clock may answer it.
     pub fn pop(&mut self, clock: u64) -> Option<T>
-        ensures { λ r. ⌜ Cases r (deque-items (now (self .exit) .items) ≡ deque-items (now (self .entry) .items)) (λ x. (due : ℕ) × (deque-items (now (self .entry) .items) ≡ record { asked = x; due = due } ∷ deque-items (now (self .exit) .items))) ⌝ }
+        ensures { λ r. ⌜ Cases r (deque-items (now (self .exit) .items) ≡ deque-items (now (self .entry) .items)) (λ x. (due : ℕ) × (deque-items (now (self .entry) .items) ≡ record { asked = x; due = due } ∷ deque-items (now (self .exit) .items)) × (due ≤ clock)) ⌝ }
     {
         let due = self.items.front()?.due;
         if clock < due {

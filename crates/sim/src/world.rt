@@ -1,6 +1,6 @@
 // Memories and devices, clock by clock.
 ghost use Rattle.std.specs.Vec.{made};
-ghost use Rattle.sim.specs.Worlds.{Fetched, Answers, Keeps-code, Keeps-data};
+ghost use Rattle.sim.specs.Worlds.{Fetches, Answers, Gives, Keeps-code, Keeps-data};
 use crate::delay::Delay;
 use crate::devices::Devices;
 use crate::error::WorldError;
@@ -53,7 +53,9 @@ impl World {
     }
 
     // This clock's answers. A write is in memory once it is answered.
-    pub fn inputs(&mut self) -> Result<Inputs, WorldError> {
+    pub fn inputs(&mut self) -> Result<Inputs, WorldError>
+        ensures { λ r. ⌜ made r (λ i. Gives (now (self .entry)) (now (self .exit)) i) ⌝ }
+    {
         let code = self.fetch();
         let answer = match self.requests.pop(self.clock) {
             Some(request) => Some(self.answer(request)?),
@@ -63,7 +65,7 @@ impl World {
     }
 
     fn fetch(&mut self) -> Option<u32>
-        ensures code { λ r. ⌜ Fetched (now (self .entry)) (now (self .exit)) r ⌝ }
+        ensures code { λ r. ⌜ Fetches (now (self .entry)) (now (self .exit)) r ⌝ }
         ensures rest { λ _. ⌜ Keeps-data (now (self .entry)) (now (self .exit)) ⌝ }
     {
         let address = self.wants.pop(self.clock)?;
