@@ -4,7 +4,7 @@ ghost use Rattle.isa.specs.Executing.{source1, source2};
 use crate::reg::Reg;
 
 // Register-register operations, and those with an immediate.
-#[derive(Clone, Copy)]
+#[derive(Clone, Copy, PartialEq)]
 pub enum AluOp {
     Add,
     Sub,
@@ -19,7 +19,7 @@ pub enum AluOp {
 }
 
 // The operations of the M extension that the core has: low product, high product, quotient, remainder, all unsigned.
-#[derive(Clone, Copy)]
+#[derive(Clone, Copy, PartialEq)]
 pub enum MulOp {
     Mul,
     Mulhu,
@@ -28,7 +28,7 @@ pub enum MulOp {
 }
 
 // When a branch is taken.
-#[derive(Clone, Copy)]
+#[derive(Clone, Copy, PartialEq)]
 pub enum Cond {
     Eq,
     Ne,
