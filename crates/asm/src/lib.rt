@@ -1,7 +1,6 @@
 // Text of programs: an assembler, a disassembler and a reader of hex words.
 pub mod assemble;
 pub mod cursor;
-pub mod encode;
 pub mod error;
 pub mod hex;
 pub mod instruction;

@@ -1,12 +1,12 @@
 // Runs the assembler, the disassembler and the hex reader on the files of data/, and prints what they give.
 use asm::assemble::assemble;
-use asm::encode::encode;
 use asm::error::AsmErrorDisplay;
 use asm::hex::read_hex;
 use asm::listing::Listing;
 use asm::listing::ListingDisplay;
 use asm::program::Placed;
 use asm::program::Program;
+use encoding::encode;
 use isa::decode::decode;
 use std::alloc::Global;
 use std::error::AnyError;

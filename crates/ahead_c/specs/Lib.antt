@@ -1,0 +1,2 @@
+-- The calls for C.
+pub mod Codes
