@@ -12,6 +12,7 @@ use Rattle.first.specs.Stands.{Stands}
 abbrev pub started-code : Started → ℕ
 started-code Ready = 0
 started-code Few = 1
+
 abbrev pub clocked-code : Clocked → ℕ
 clocked-code Done = 0
 clocked-code NoCore = 1
@@ -21,6 +22,7 @@ pub record StartedFor (a : ℕ) (w w′ : List ℕ) (r : ℕ) : Type 0 where
   pub answer : Started
   pub code : r ≡ started-code answer
   pub post : StartedPost Stands a w w′ answer
+
 pub record ClockedFor (w w′ i o o′ : List ℕ) (r : ℕ) : Type 0 where
   pub answer : Clocked
   pub code : r ≡ clocked-code answer

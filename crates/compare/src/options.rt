@@ -1,12 +1,12 @@
 // What the user asks for.
-use bench::args::read_number;
-use bench::failure::Failure;
-use bench::failure::FailureFromAlloc;
-use bench::failure::FailureFromRefused;
-use bench::files::Format;
 use sim::delay::Delay;
 use std::alloc::AllocError;
 use std::alloc::Global;
+use testbench::args::read_number;
+use testbench::failure::Failure;
+use testbench::failure::FailureFromAlloc;
+use testbench::failure::FailureFromRefused;
+use testbench::files::Format;
 
 pub const HELP: &str = "compare [OPTIONS] [PROGRAM..]
 

@@ -4,22 +4,22 @@ use crate::options::Options;
 use asm::listing::Listing;
 use asm::listing::ListingDisplay;
 use asm::program::Program;
-use bench::failure::Failure;
-use bench::failure::FailureFromAlloc;
-use bench::failure::FailureFromIo;
-use bench::files::Format;
-use bench::files::read_program;
-use bench::generator::random_program;
-use bench::mismatch::Mismatch;
-use bench::mismatch::MismatchDisplay;
-use bench::setup::Setup;
-use bench::summary::Summary;
-use bench::trace::trace;
-use bench::versus::Verdict;
-use bench::versus::versus;
 use sim::delay::DelayDisplay;
 use sim::devices::Rest;
 use std::env;
+use testbench::failure::Failure;
+use testbench::failure::FailureFromAlloc;
+use testbench::failure::FailureFromIo;
+use testbench::files::Format;
+use testbench::files::read_program;
+use testbench::generator::random_program;
+use testbench::mismatch::Mismatch;
+use testbench::mismatch::MismatchDisplay;
+use testbench::setup::Setup;
+use testbench::summary::Summary;
+use testbench::trace::trace;
+use testbench::versus::Verdict;
+use testbench::versus::versus;
 
 // What agreed so far.
 #[derive(Clone, Copy)]

@@ -2,8 +2,8 @@
 mod options;
 mod program;
 
-use bench::failure::Failure;
-use bench::failure::report;
+use testbench::failure::Failure;
+use testbench::failure::report;
 
 fn main(rt: LibcRuntime) -> Result<(), Failure> {
     let result = program::run(&rt);

@@ -1,14 +1,14 @@
 // What the user asks for.
 use asm::program::Placed;
-use bench::args::read_number;
-use bench::args::read_numbers;
-use bench::args::read_placed;
-use bench::failure::Failure;
-use bench::failure::FailureFromAlloc;
-use bench::files::Format;
 use sim::delay::Delay;
 use sim::devices::Rest;
 use std::alloc::Global;
+use testbench::args::read_number;
+use testbench::args::read_numbers;
+use testbench::args::read_placed;
+use testbench::failure::Failure;
+use testbench::failure::FailureFromAlloc;
+use testbench::files::Format;
 
 pub const HELP: &str = "run [OPTIONS] PROGRAM
 

@@ -2,16 +2,16 @@
 use crate::options::HELP;
 use crate::options::Options;
 use asm::program::Program;
-use bench::failure::Failure;
-use bench::failure::FailureFromAlloc;
-use bench::failure::FailureFromIo;
-use bench::files::Format;
-use bench::files::read_program;
-use bench::setup::Setup;
-use bench::summary::SummaryDisplay;
-use bench::trace::trace;
 use std::alloc::AllocError;
 use std::env;
+use testbench::failure::Failure;
+use testbench::failure::FailureFromAlloc;
+use testbench::failure::FailureFromIo;
+use testbench::files::Format;
+use testbench::files::read_program;
+use testbench::setup::Setup;
+use testbench::summary::SummaryDisplay;
+use testbench::trace::trace;
 
 pub fn run(rt: &LibcRuntime) -> Result<(), Failure> {
     let heap = rt.alloc();

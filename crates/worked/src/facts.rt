@@ -2,10 +2,10 @@
 use crate::case::Case;
 use crate::record::Record;
 use asm::program::Program;
-use bench::effects::same_effect;
 use isa::execute::Stop;
 use pins::ports::Retired;
 use reference::trace::Effect;
+use testbench::effects::same_effect;
 
 const LOOP_WORDS: [u32; 10] = [
     4194963,

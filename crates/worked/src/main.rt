@@ -5,8 +5,8 @@ mod record;
 mod refusals;
 mod table;
 
-use bench::failure::Failure;
-use bench::failure::report;
+use testbench::failure::Failure;
+use testbench::failure::report;
 
 fn run(rt: &LibcRuntime) -> Result<(), Failure> {
     table::show_all(rt)?;

@@ -1,14 +1,14 @@
 // What a run did, in full.
-use bench::effects::effect_of;
-use bench::failure::Failure;
-use bench::failure::FailureFromAlloc;
-use bench::failure::FailureFromRefused;
-use bench::session::Clock;
-use bench::setup::Setup;
-use bench::summary::Summary;
 use pins::ports::Retired;
 use reference::trace::Effect;
 use std::alloc::Global;
+use testbench::effects::effect_of;
+use testbench::failure::Failure;
+use testbench::failure::FailureFromAlloc;
+use testbench::failure::FailureFromRefused;
+use testbench::session::Clock;
+use testbench::setup::Setup;
+use testbench::summary::Summary;
 
 #[derive(Drop)]
 pub struct Record {

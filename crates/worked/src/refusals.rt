@@ -1,12 +1,12 @@
 // Calls that the core refuses: every buffer is then as it was.
-use bench::failure::Failure;
-use bench::failure::FailureFromAlloc;
-use bench::failure::FailureFromIo;
-use bench::session::CORE_WORDS;
 use pins::Clocked;
 use pins::Started;
 use std::alloc::AllocError;
 use std::alloc::Global;
+use testbench::failure::Failure;
+use testbench::failure::FailureFromAlloc;
+use testbench::failure::FailureFromIo;
+use testbench::session::CORE_WORDS;
 
 pub fn show(rt: &LibcRuntime) -> Result<(), Failure> {
     let heap = rt.alloc();

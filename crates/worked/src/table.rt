@@ -2,23 +2,23 @@
 use crate::case::Case;
 use crate::record::Record;
 use asm::program::Program;
-use bench::failure::Failure;
-use bench::failure::FailureFromAlloc;
-use bench::failure::FailureFromIo;
-use bench::files::Format;
-use bench::files::read_program;
-use bench::lines::RetiredDisplay;
-use bench::lines::Shown;
-use bench::lines::StopDisplay;
-use bench::setup::Setup;
-use bench::summary::Summary;
-use bench::versus::Verdict;
-use bench::versus::versus;
 use sim::delay::Delay;
 use sim::delay::DelayDisplay;
 use sim::devices::Rest;
 use std::alloc::AllocError;
 use std::alloc::Global;
+use testbench::failure::Failure;
+use testbench::failure::FailureFromAlloc;
+use testbench::failure::FailureFromIo;
+use testbench::files::Format;
+use testbench::files::read_program;
+use testbench::lines::RetiredDisplay;
+use testbench::lines::Shown;
+use testbench::lines::StopDisplay;
+use testbench::setup::Setup;
+use testbench::summary::Summary;
+use testbench::versus::Verdict;
+use testbench::versus::versus;
 
 const DELAYS: [Delay; 5] = [
     Delay::Fixed(0),

@@ -1,12 +1,5 @@
 // Clocks that are made up, and what the checker says of them.
 use asm::assemble::assemble;
-use bench::failure::Failure;
-use bench::failure::FailureFromAlloc;
-use bench::failure::FailureFromRefused;
-use bench::mismatch::CheckError;
-use bench::mismatch::MismatchDisplay;
-use bench::session::Clock;
-use bench::setup::Setup;
 use isa::execute::Stop;
 use pins::ports::Done;
 use pins::ports::Inputs;
@@ -16,6 +9,13 @@ use pins::ports::Retired;
 use sim::delay::Delay;
 use sim::devices::Rest;
 use std::alloc::Global;
+use testbench::failure::Failure;
+use testbench::failure::FailureFromAlloc;
+use testbench::failure::FailureFromRefused;
+use testbench::mismatch::CheckError;
+use testbench::mismatch::MismatchDisplay;
+use testbench::session::Clock;
+use testbench::setup::Setup;
 
 // `answered` is the clock from which on a device has answered 99.
 #[derive(Drop)]

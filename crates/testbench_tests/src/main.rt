@@ -2,10 +2,10 @@
 mod cases;
 mod history;
 
-use bench::failure::Failure;
-use bench::failure::report;
+use testbench::failure::Failure;
+use testbench::failure::report;
 
 fn main(rt: LibcRuntime) -> Result<(), Failure> {
     let result = cases::show_all(&rt);
-    report(&rt, "bench_tests", result)
+    report(&rt, "testbench_tests", result)
 }

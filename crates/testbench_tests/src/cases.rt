@@ -6,10 +6,10 @@ use crate::history::read;
 use crate::history::stop;
 use crate::history::want;
 use crate::history::write;
-use bench::failure::Failure;
-use bench::failure::FailureFromIo;
 use isa::execute::Stop;
 use std::alloc::Global;
+use testbench::failure::Failure;
+use testbench::failure::FailureFromIo;
 
 const ASKING: &str = "
         lui     t2, 0x80000
