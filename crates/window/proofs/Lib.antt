@@ -1,0 +1,12 @@
+pub mod Cases
+pub mod Outcomes
+pub mod Lines
+pub mod NewestRight
+pub mod SourceRight
+pub mod Claims
+pub mod Held
+pub mod Invariant
+pub mod LearnKept
+pub mod AskKept
+pub mod AnswerKept
+pub mod RetireKept

@@ -1,0 +1,1 @@
+// The laws of every core with a window: each function's contract is the theorem.

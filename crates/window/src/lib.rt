@@ -1,0 +1,3 @@
+// The window: instructions at work, oldest first, each with what is known of it; and the laws of every core that has one.
+pub mod entry;
+pub mod laws;
