@@ -10,3 +10,7 @@ pub mod LearnKept
 pub mod AskKept
 pub mod AnswerKept
 pub mod RetireKept
+pub mod RuleCases
+pub mod Counted
+pub mod ClockKept
+pub mod AlwaysRight

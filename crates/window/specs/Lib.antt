@@ -4,3 +4,4 @@ pub mod Operands
 pub mod Newest
 pub mod Machine
 pub mod Clocks
+pub mod Right
