@@ -6,7 +6,7 @@ use mathlib.Core.Option.{some, none}
 use Prim.Native.Nat.{ℕ, zero, suc, _/_, _<_, _≤_}
 use native.Mathlib.Omega.{arith}
 use lib.ListN.{length, length-append, take}
-use lib.Seq.{take-append-le}
+use lib.Seq.{take-append-le, length-take-le}
 use Rattle.std.specs.declared.option.Option.{Option}
 use Rattle.isa.specs.Words.{nth, put}
 use Rattle.isa.specs.Manual.{Code, S, Ret, Ev, device, goes, step}
@@ -52,23 +52,11 @@ nth-append [] ys n e = some-none e refl
 nth-append (y ∷ xs) ys zero e = e
 nth-append (y ∷ xs) ys (suc n) e = nth-append xs ys n e
 
-take-take : {A : Type 0} (j n : ℕ) (xs : List A) → j < n → take j (take n xs) ≡ take j xs
+take-take : {A : Type 0} (j n : ℕ) (xs : List A) → j ≤ n → take j (take n xs) ≡ take j xs
 take-take zero n xs h = refl
 take-take (suc j) zero xs h = absurd (omega arith)
 take-take (suc j) (suc n) [] h = refl
 take-take (suc j) (suc n) (x ∷ xs) h = ap (λ z. x ∷ z) (take-take j n xs (omega arith))
-
-take-inside : {A : Type 0} (j n : ℕ) (xs : List A) → j < n → j < length xs → j < length (take n xs)
-take-inside j zero xs h g = absurd (omega arith)
-take-inside j (suc n) [] h g = g
-take-inside zero (suc n) (x ∷ xs) h g = omega arith
-take-inside (suc j) (suc n) (x ∷ xs) h g = let i = take-inside j n xs (omega arith) (omega arith) in omega arith
-
-nth-take : {A : Type 0} (j n : ℕ) (xs : List A) {x : A} → j < n → nth xs j ≡ some x → nth (take n xs) j ≡ some x
-nth-take j zero xs h e = absurd (omega arith)
-nth-take j (suc n) [] h e = e
-nth-take zero (suc n) (y ∷ xs) h e = e
-nth-take (suc j) (suc n) (y ∷ xs) h e = nth-take j n xs (omega arith) e
 
 -- the predictions and addresses of the window
 predictions-put : (es : List Entry) (n : ℕ) (d e : Entry) → nth es n ≡ some d → d .predicted ≡ e .predicted → predictions (put es n e) ≡ predictions es
@@ -114,21 +102,6 @@ module _ {c : Code} {stands : List ℕ → S} {es : List Entry} {ts : List Tag} 
     codes = rw (addresses-put es n d e at p) (h .codes);
   }
 
-  -- all from n on is flushed, and what was asked for it is for nobody
-  loads-flush : (n k x j : ℕ) → (k ≡ j) × (k < n) → Loads-word c stands (predictions es) k x → Loads-word c stands (predictions (take n es)) j x
-  loads-flush n k x j (e, i) p =
-      rw (← e, predictions-take) (record { inside = take-inside k n (predictions es) i (p .inside); is = rw (take-take k n (predictions es) i) (p .is) })
-
-  at-flush : (n k a j : ℕ) → (k ≡ j) × (k < n) → Is-at (addresses es) k a → Is-at (addresses (take n es)) j a
-  at-flush n k a j (e, i) p = rw (← e, addresses-take) (nth-take k n (addresses es) i p)
-
-  pub held-flush : (n : ℕ) → Held c stands (take n es) (retags (kept n) ts) ds (renumbers (kept n) fs) qs
-  held-flush n = record {
-    line = λ zs. line-take c n (stands zs) es (h .line zs);
-    datas = requests-retag (kept n) (λ k x j e p. loads-flush n k x j (kept-is n k j e) p) (h .datas);
-    codes = fetches-renumber (kept n) (λ k a j e p. at-flush n k a j (kept-is n k j e) p) (h .codes);
-  }
-
   -- one more at the end
   loads-push : (e : Entry) (n x : ℕ) → Loads-word c stands (predictions es) n x → Loads-word c stands (predictions es ++ (e .predicted ∷ [])) n x
   loads-push e n x p = let i = p .inside in record {
@@ -142,6 +115,52 @@ module _ {c : Code} {stands : List ℕ → S} {es : List Entry} {ts : List Tag} 
     line = λ zs. line-push c (stands zs) es e (h .line zs) (f zs);
     datas = rw predictions-append (each-map (λ t d p. request-map (λ n x q. loads-push e n x q) t d p) (h .datas));
     codes = rw addresses-append (each-map (λ t a p. fetch-map (λ n b q. nth-append (addresses es) (e .pc ∷ []) n q) t a p) (h .codes));
+  }
+
+-- another prediction for the n-th: what is younger is flushed, and what was asked for the n-th itself stays
+nth-split : {A : Type 0} (xs : List A) (n k : ℕ) (x y z : A) → nth xs n ≡ some x → x ≡ y → k < suc n → nth xs k ≡ some z → nth (take n xs ++ (y ∷ [])) k ≡ some z
+nth-split [] n k x y z at e l f = some-none at refl
+nth-split (a ∷ xs) zero zero x y z at e l f = ap some (sym e) ∙ sym at ∙ f
+nth-split (a ∷ xs) zero (suc k) x y z at e l f = absurd (omega arith)
+nth-split (a ∷ xs) (suc n) zero x y z at e l f = f
+nth-split (a ∷ xs) (suc n) (suc k) x y z at e l f = nth-split xs n k x y z at e (omega arith) f
+
+take-split : {A : Type 0} (xs : List A) (n k : ℕ) (y : A) → n < length xs → k < suc n → take k (take n xs ++ (y ∷ [])) ≡ take k xs
+take-split xs n k y h l = let e = length-take-le n xs (omega arith) in take-append-le k (take n xs) (y ∷ []) (omega arith) ∙ take-take k n xs (omega arith)
+
+nth-addresses : (es : List Entry) (n : ℕ) (e : Entry) → nth es n ≡ some e → nth (addresses es) n ≡ some (e .pc)
+nth-addresses [] n e at = some-none at refl
+nth-addresses (x ∷ es) zero e at = let same : x ≡ e = cc in ap (λ (y : Entry). some (y .pc)) same
+nth-addresses (x ∷ es) (suc n) e at = nth-addresses es n e at
+
+module _ {c : Code} {stands : List ℕ → S} {es : List Entry} {ts : List Tag} {ds : List Due} {fs : List (Option Number)} {qs : List ℕ}
+    (h : Held c stands es ts ds fs qs) (n : ℕ) (e d : Entry) (at : nth es n ≡ some e) (pc : e .pc ≡ d .pc) where
+  redirected-predictions : predictions (take n es ++ (d ∷ [])) ≡ take n (predictions es) ++ (d .predicted ∷ [])
+  redirected-predictions = predictions-append (take n es) (d ∷ []) ∙ ap (λ z. z ++ (d .predicted ∷ [])) (predictions-take n es)
+
+  redirected-addresses : addresses (take n es ++ (d ∷ [])) ≡ take n (addresses es) ++ (d .pc ∷ [])
+  redirected-addresses = addresses-append (take n es) (d ∷ []) ∙ ap (λ z. z ++ (d .pc ∷ [])) (addresses-take n es)
+
+  inside-all : n < length (predictions es)
+  inside-all = rw predictions-length (nth-inside es n at)
+
+  loads-redirect : (k x j : ℕ) → (k ≡ j) × (k < suc n) → Loads-word c stands (predictions es) k x → Loads-word c stands (predictions (take n es ++ (d ∷ []))) j x
+  loads-redirect k x j (q, l) p =
+      let i = inside-all in
+      rw (← q, redirected-predictions) (record {
+        inside = rw (length-append (take n (predictions es)) (d .predicted ∷ [])) (let e = length-take-le n (predictions es) (omega arith) in omega arith);
+        is = rw (take-split (predictions es) n k (d .predicted) i l) (p .is);
+      })
+
+  at-redirect : (k a j : ℕ) → (k ≡ j) × (k < suc n) → Is-at (addresses es) k a → Is-at (addresses (take n es ++ (d ∷ []))) j a
+  at-redirect k a j (q, l) p = rw (← q, redirected-addresses) (nth-split (addresses es) n k (e .pc) (d .pc) a (nth-addresses es n e at) pc l p)
+
+  pub held-redirect : ((zs : List ℕ) (v : S) → Reaches c (stands zs) (take n (predictions es)) v → Agrees c v d)
+      → Held c stands (take n es ++ (d ∷ [])) (retags (kept (suc n)) ts) ds (renumbers (kept (suc n)) fs) qs
+  held-redirect f = record {
+    line = λ zs. line-push c (stands zs) (take n es) d (line-take c n (stands zs) es (h .line zs)) (λ v r. f zs v (rw predictions-take at r));
+    datas = requests-retag (kept (suc n)) (λ k x j q p. loads-redirect k x j (kept-is (suc n) k j q) p) (h .datas);
+    codes = fetches-renumber (kept (suc n)) (λ k a j q p. at-redirect k a j (kept-is (suc n) k j q) p) (h .codes);
   }
 
 -- the oldest is retired, and its prediction was right

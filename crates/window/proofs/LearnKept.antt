@@ -110,6 +110,7 @@ module _ (c : Code) (m : Mem) (a : ℕ) (k : Core) (v : Seen) (h : Inv c m a k v
   pub execute-kept : (n : ℕ) → Inv c m a (learn execute n k) v
   execute-kept n =
       learn-kept execute n (λ e at.
+      given-cases (Maybe-better n e) (e .outcome) (λ _.
       given-cases (Maybe-better n e) (e .word) (λ _. tt) (λ w ew.
       given-cases (Maybe-better n e) (e .left) (λ _. tt) (λ x ex.
       given-cases (Maybe-better n e) (e .right) (λ _. tt) (λ y ey.
@@ -125,13 +126,16 @@ module _ (c : Code) (m : Mem) (a : ℕ) (k : Core) (v : Seen) (h : Inv c m a k v
           loaded = f .loaded;
         };
       }))))
+      (λ _ _. tt))
 
   pub source-at : (n i : ℕ) (zs : List ℕ) (s : S) → Reaches c (stand k (v .mem) zs) (take n (predictions (k .window))) s
       → Is (v .mem i) (source (k .stores) (k .window) n i) (s .mem i)
   source-at n i zs s w = source-right c (v .mem) (k .stores) (stand k (v .mem) zs) s (k .window) n i refl (h .held .line zs) w
 
   pub forward-kept : (n : ℕ) → Inv c m a (learn forward n k) v
-  forward-kept n = learn-kept forward n (λ e at. given-cases (Maybe-better n e) (e .outcome) (λ _. tt) (λ o eo. by e o eo))
+  forward-kept n =
+      learn-kept forward n (λ e at.
+      given-cases (Maybe-better n e) (e .loaded) (λ _. given-cases (Maybe-better n e) (e .outcome) (λ _. tt) (λ o eo. by e o eo)) (λ _ _. tt))
     where
       from : (e : Entry) (d : Reg) (b : ℕ) → e .outcome ≡ Some (Loads d b) → (x : Bool) → device b ≡ x → (q : Source)
           → ((zs : List ℕ) (s : S) → Reaches c (stand k (v .mem) zs) (take n (predictions (k .window))) s → Is (v .mem (b / 4)) q (s .mem (b / 4)))

@@ -14,3 +14,7 @@ pub mod RuleCases
 pub mod Counted
 pub mod ClockKept
 pub mod AlwaysRight
+pub mod Searches
+pub mod Circle
+pub mod RingList
+pub mod BufferList

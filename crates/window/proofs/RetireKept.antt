@@ -39,7 +39,7 @@ use Rattle.window.proofs.Outcomes.{step-plan, how-low}
 use Rattle.window.proofs.Lines.{known, Loaded, Agrees, Line, predictions, predictions-take, line-nil, line-at}
 use Rattle.window.proofs.SourceRight.{with-stores, store-evs}
 use Rattle.window.proofs.Claims.{requests-retag, fetches-renumber, kept-none}
-use Rattle.window.proofs.Held.{Held, held-flush, held-push, held-pop}
+use Rattle.window.proofs.Held.{Held, held-redirect, held-pop}
 use Rattle.window.proofs.Invariant.{Seen, retired, unread, reading, readings, device-tags, Oldest-reads, base, stand, run-seen, Runs, Inv}
 use Rattle.window.proofs.AskKept.{oldest-agrees}
 
@@ -212,11 +212,11 @@ module _ (c : Code) (m : Mem) (a : ℕ) (k : Core) (v : Seen) (h : Inv c m a k v
   pub redirect-kept : (n g : ℕ) → Inv c m a (redirect n g k) v
   redirect-kept n g = opt-cases (λ z. Inv c m a z v) (nth (k .window) n) (λ _. h) (λ e at. record {
     runs = record { at = h .runs .at; done = h .runs .done; did = h .runs .did; size = h .runs .size };
-    held = held-push (held-flush (h .held) n) (with-predicted e g) (λ zs s r.
-        let f = line-at c (stand k (v .mem) zs) (k .window) n e s at (h .held .line zs) (rw predictions-take at r) in
+    held = held-redirect (h .held) n e (with-predicted e g) at refl (λ zs s r.
+        let f = line-at c (stand k (v .mem) zs) (k .window) n e s at (h .held .line zs) r in
         record { here = f .here; word = f .word; left = f .left; right = f .right; outcome = f .outcome; loaded = f .loaded });
     oldest = h .oldest;
-    one-reading = device-tags-retags (kept n) (k .requests) ∙ h .one-reading;
+    one-reading = device-tags-retags (kept (suc n)) (k .requests) ∙ h .one-reading;
   })
 
   -- it stops as the manual does

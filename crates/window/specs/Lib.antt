@@ -5,3 +5,5 @@ pub mod Newest
 pub mod Machine
 pub mod Clocks
 pub mod Right
+pub mod Scans
+pub mod Rings

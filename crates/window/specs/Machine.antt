@@ -87,9 +87,12 @@ read-left k n e = given (e .left) (given (e .word) None (λ w. given (newest (k 
 abbrev pub read-right : Core → ℕ → Entry → Option Entry
 read-right k n e = given (e .right) (given (e .word) None (λ w. given (newest (k .regs) (k .window) n (right-register w)) None (λ x. Some (with-right e x)))) (λ _. None)
 
--- the outcome
+-- the outcome, once its operands are there
+abbrev pub executed : Entry → Option Entry
+executed e = given (e .word) None (λ w. given (e .left) None (λ x. given (e .right) None (λ y. Some (with-outcome e (work-with (e .pc) w x y)))))
+
 abbrev pub execute : Core → ℕ → Entry → Option Entry
-execute k n e = given (e .word) None (λ w. given (e .left) None (λ x. given (e .right) None (λ y. Some (with-outcome e (work-with (e .pc) w x y)))))
+execute k n e = given (e .outcome) (executed e) (λ _. None)
 
 -- a load whose word is with a store before it
 abbrev pub forwarded : Entry → Source → Option Entry
@@ -105,7 +108,7 @@ forward-outcome k n e (Stores a x) = None
 forward-outcome k n e (Halts h) = None
 
 abbrev pub forward : Core → ℕ → Entry → Option Entry
-forward k n e = given (e .outcome) None (forward-outcome k n e)
+forward k n e = given (e .loaded) (given (e .outcome) None (forward-outcome k n e)) (λ _. None)
 
 -- numbers when the oldest is retired, and when all from n on are flushed; None: nobody waits any more
 abbrev pub popped : ℕ → Option ℕ
@@ -141,8 +144,8 @@ redirect n g k = opt (nth (k .window) n) k (λ e. record {
   stores = k .stores;
   device = k .device;
   window = take n (k .window) ++ (with-predicted e g ∷ []);
-  requests = retags (kept n) (k .requests);
-  fetches = renumbers (kept n) (k .fetches);
+  requests = retags (kept (suc n)) (k .requests);
+  fetches = renumbers (kept (suc n)) (k .fetches);
 })
 
 -- the oldest is retired: the core after it, and its trace

@@ -1,9 +1,24 @@
 // The laws of every core with a window: each function's contract is the theorem.
 ghost use Rattle.window.specs.Right.{Window-right};
+ghost use Rattle.window.specs.Rings.{Ring-laws, Buffer-laws};
 
 // Whatever the schedule over tables T, and whatever is predicted: what is shown at the ports is what the manual says.
 pub fn always_right<T>() -> bool
     ensures { λ _. ⌜ Window-right T ⌝ }
+{
+    true
+}
+
+// The window as a ring: each method is the machine's rule on the list of its entries.
+pub fn ring_is_list() -> bool
+    ensures { λ _. ⌜ Ring-laws ⌝ }
+{
+    true
+}
+
+// And so the store buffer.
+pub fn buffer_is_list() -> bool
+    ensures { λ _. ⌜ Buffer-laws ⌝ }
 {
     true
 }
