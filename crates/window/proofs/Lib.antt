@@ -18,3 +18,9 @@ pub mod Searches
 pub mod Circle
 pub mod RingList
 pub mod BufferList
+pub mod Marks
+pub mod Slots
+pub mod Onward
+pub mod Fed
+pub mod Taken
+pub mod AtPort

@@ -7,3 +7,4 @@ pub mod Clocks
 pub mod Right
 pub mod Scans
 pub mod Rings
+pub mod Fairness
