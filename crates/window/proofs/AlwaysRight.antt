@@ -35,11 +35,14 @@ use Rattle.window.proofs.Claims.{no-more, each-length}
 use Rattle.window.proofs.Invariant.{seen, unread, reading, Oldest-reads, base, stand, Inv}
 use Rattle.window.proofs.RetireKept.{Stops, Stop-right, halted-right}
 use Rattle.window.proofs.Counted.{Few, clock-few}
+use Rattle.window.proofs.Fed.{Fed-core, fed-none, clock-fed}
 use Rattle.window.proofs.ClockKept.{clock-kept}
 
 pub record Inv-whole (c : Code) (m : Mem) (a : ℕ) (k : Core) (v : View) : Type 0 where
   pub inv : Inv c m a k (seen v)
   pub few : Few k
+  -- an instruction without its word has a fetch open
+  pub fed : Fed-core k
   -- the ports show whether it has stopped
   pub halt : v .stopped ≡ halted k
 
@@ -114,9 +117,10 @@ invariant s = record {
   starts = λ c m a. record {
     inv = begun-inv c m a;
     few = record { requests = omega arith; fetches = omega arith; stores = omega arith };
+    fed = fed-none [];
     halt = refl;
   };
-  kept = λ c m a z v i r h. record { inv = clock-kept c m a s z i v r (h .inv); few = clock-few s z i (h .few); halt = refl };
+  kept = λ c m a z v i r h. record { inv = clock-kept c m a s z i v r (h .inv); few = clock-few s z i (h .few); fed = clock-fed s z i (h .fed); halt = refl };
   right = λ c m a z v h. right-now c m a (z .core) v h;
 }
 

@@ -24,3 +24,8 @@ pub mod Onward
 pub mod Fed
 pub mod Taken
 pub mod AtPort
+pub mod Rank
+pub mod Clocked
+pub mod Falls
+pub mod StoresOut
+pub mod GoesOn
