@@ -1,10 +1,18 @@
 // The laws of every core with a window: each function's contract is the theorem.
 ghost use Rattle.window.specs.Right.{Window-right};
+ghost use Rattle.window.specs.Fairness.{Window-goes-on};
 ghost use Rattle.window.specs.Rings.{Ring-laws, Buffer-laws};
 
 // Whatever the schedule over tables T, and whatever is predicted: what is shown at the ports is what the manual says.
 pub fn always_right<T>() -> bool
     ensures { λ _. ⌜ Window-right T ⌝ }
+{
+    true
+}
+
+// With a schedule that is fair to the oldest instruction and to waiting stores it goes on.
+pub fn goes_on<T>() -> bool
+    ensures { λ _. ⌜ Window-goes-on T ⌝ }
 {
     true
 }
