@@ -29,3 +29,5 @@ pub mod Clocked
 pub mod Falls
 pub mod StoresOut
 pub mod GoesOn
+pub mod OldestReady
+pub mod OldestFirst

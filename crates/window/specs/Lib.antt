@@ -8,3 +8,4 @@ pub mod Right
 pub mod Scans
 pub mod Rings
 pub mod Fairness
+pub mod OldestFirst

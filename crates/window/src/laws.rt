@@ -1,6 +1,7 @@
 // The laws of every core with a window: each function's contract is the theorem.
 ghost use Rattle.window.specs.Right.{Window-right};
 ghost use Rattle.window.specs.Fairness.{Window-goes-on};
+ghost use Rattle.window.specs.OldestFirst.{Oldest-first-fair};
 ghost use Rattle.window.specs.Rings.{Ring-laws, Buffer-laws};
 
 // Whatever the schedule over tables T, and whatever is predicted: what is shown at the ports is what the manual says.
@@ -13,6 +14,13 @@ pub fn always_right<T>() -> bool
 // With a schedule that is fair to the oldest instruction and to waiting stores it goes on.
 pub fn goes_on<T>() -> bool
     ensures { λ _. ⌜ Window-goes-on T ⌝ }
+{
+    true
+}
+
+// A schedule that puts the oldest first is fair, whatever it does else with tables U.
+pub fn oldest_first_is_fair<U>() -> bool
+    ensures { λ _. ⌜ Oldest-first-fair U ⌝ }
 {
     true
 }
