@@ -31,3 +31,4 @@ pub mod StoresOut
 pub mod GoesOn
 pub mod OldestReady
 pub mod OldestFirst
+pub mod Refined

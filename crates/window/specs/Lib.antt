@@ -9,3 +9,4 @@ pub mod Scans
 pub mod Rings
 pub mod Fairness
 pub mod OldestFirst
+pub mod Refining

@@ -2,6 +2,7 @@
 ghost use Rattle.window.specs.Right.{Window-right};
 ghost use Rattle.window.specs.Fairness.{Window-goes-on};
 ghost use Rattle.window.specs.OldestFirst.{Oldest-first-fair};
+ghost use Rattle.window.specs.Refining.{Refine-laws};
 ghost use Rattle.window.specs.Rings.{Ring-laws, Buffer-laws};
 
 // Whatever the schedule over tables T, and whatever is predicted: what is shown at the ports is what the manual says.
@@ -21,6 +22,13 @@ pub fn goes_on<T>() -> bool
 // A schedule that puts the oldest first is fair, whatever it does else with tables U.
 pub fn oldest_first_is_fair<U>() -> bool
     ensures { λ _. ⌜ Oldest-first-fair U ⌝ }
+{
+    true
+}
+
+// A core with states A whose clock is that of a machine with states B: what is proved of the machine holds of the core.
+pub fn refined<A, B>() -> bool
+    ensures { λ _. ⌜ Refine-laws A B ⌝ }
 {
     true
 }
