@@ -55,12 +55,12 @@ fn one_expected(text: &str) -> Option<Expected> {
         "ask" => Some(Expected::Device(Effect::Ask {
             address: number(what).ok()?,
         })),
-        "stop" => Some(Expected::Stop(stop(what)?)),
+        "stop" => Some(Expected::Stop(stop_named(what)?)),
         _ => None,
     }
 }
 
-fn stop(name: &str) -> Option<Stop> {
+fn stop_named(name: &str) -> Option<Stop> {
     match name {
         "illegal" => Some(Stop::Illegal),
         "misaligned" => Some(Stop::Misaligned),

@@ -28,7 +28,7 @@ pub struct Row {
 
 // A run with one delay, and whether it is right.
 #[derive(Clone, Copy)]
-struct Run {
+struct Outcome {
     summary: Summary,
     right: bool,
 }
@@ -75,7 +75,7 @@ fn run(
     program: &Program,
     expected: &[Expected],
     delay: Delay,
-) -> Result<Run, Failure> {
+) -> Result<Outcome, Failure> {
     let setup = Setup {
         program,
         delay,
@@ -87,7 +87,7 @@ fn run(
         Verdict::Agrees(_) => true,
         Verdict::Differs { .. } => false,
     };
-    Ok(Run {
+    Ok(Outcome {
         summary: end.summary,
         right: agrees && end.meets(expected),
     })
