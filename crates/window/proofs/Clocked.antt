@@ -11,6 +11,9 @@ use borrow.Author.Tests.{ltb-true, ltb-false}
 use Rattle.std.specs.declared.option.Option.{Option}
 use Rattle.std.specs.declared.option.Option.the-variants.{Some, None}
 use Rattle.isa.specs.Words.{nth}
+use Rattle.isa.specs.Executing.{how}
+use Rattle.isa.specs.declared.execute.Outcome.the-variants.{Halt as Halts}
+use Rattle.isa.specs.declared.execute.Stop.{Stop}
 use Rattle.pins.specs.Ports.{In, Out, Req}
 use Rattle.pins.specs.Outside.{Io, Hist, O, Want, Wish, after, ev-of}
 use Rattle.pins.specs.View.{View, view, pop, push}
@@ -25,13 +28,15 @@ use Rattle.window.specs.declared.entry.Entry.{Entry}
 use Rattle.window.specs.declared.entry.Number.{Number}
 use Rattle.window.specs.declared.entry.Tag.{Tag}
 use Rattle.window.specs.declared.entry.Store.{Store}
-use Rattle.window.specs.Entries.{number, fresh}
-use Rattle.window.specs.Machine.{Core, learn, read-left, read-right, execute, forward, Retired, leave, retire, Asked, next-pc}
+use Rattle.window.specs.declared.entry.DeviceRead.the-variants.{Idle}
+use Rattle.window.specs.Entries.{given, number, fresh}
+use Rattle.window.specs.Machine.{Core, learn, read-left, read-right, execute, forward, Retired, leave, retire, Asked, next-pc, halts-if, halts-outcome, halts-oldest, halted}
 use Rattle.window.specs.Clocks.{Move, rest, reads-left, reads-right, executes, forwards, redirects, retires, move, Port, room, request-if, fetch-if, fetch-room, Schedule, State, run-rules, heard, ruled, chosen-port, posted, chosen-fetch, next, shown, machine}
 use Rattle.window.specs.Fairness.{Fair-clock, Fair}
 use Rattle.window.proofs.Cases.{opt-cases}
 use Rattle.window.proofs.RuleCases.{learn-by, retire-by}
 use Rattle.window.proofs.Claims.{each-length}
+use Rattle.window.proofs.RetireKept.{idle-device}
 use Rattle.window.proofs.Counted.{Few, retags-length}
 use Rattle.window.proofs.AlwaysRight.{Inv-whole, invariant}
 use Rattle.window.proofs.Marks.{Young, pop-length}
@@ -116,6 +121,15 @@ pub full : {A : Type 0} (i : Opt ℕ) (ts : List A) → length ts ≤ 4 → ltb 
 full none ts f e = let z = ltb-false (length ts) 4 e in (refl, omega arith)
 full (some x) [] f e = let z = ltb-false 0 4 e in absurd (omega arith)
 full (some x) (t ∷ ts) f e = let z = ltb-false (length ts) 4 e in absurd (omega arith)
+
+nil-of : {A : Type 0} (xs : List A) → length xs ≡ 0 → xs ≡ []
+nil-of [] q = refl
+nil-of (x ∷ xs) q = absurd (omega arith)
+
+halted-is : (k : Core) (e : Entry) (es : List Entry) (h : Stop) → k .window ≡ e ∷ es → e .outcome ≡ Some (Halts h) → k .stores ≡ [] → k .device ≡ Idle
+    → halted k ≡ some (how h)
+halted-is k e es h w o st d =
+    ap (halts-oldest k) w ∙ ap (λ q. given q none (halts-outcome k)) o ∙ (λ i. halts-if (st i) (d i) (how h))
 
 module _ {T : Type 0} (s : Schedule T) {l : ℕ} (p : Point (machine s) l) where
   pub holds : Inv-whole (p .code) (p .mem) (p .start) (p .state .core) (view (p .mem) (p .hist))
@@ -247,3 +261,16 @@ module _ {T : Type 0} (s : Schedule T) {l : ℕ} (x : Clock (machine s) l) where
       subst (λ z. frees l w z < frees l w q0) (sym qe) (frees-full l w q0 (sym (requests-aged s (x .at)) ∙ f .1) (subst (Young l) qe young1)) in
       let b = frees-le l u w q1 h falling1 young1 in
       omega arith
+
+  -- the oldest after the rules is the oldest at the end
+  pub window4 : (d : Entry) (ds : List Entry) → k2 .window ≡ d ∷ ds → k4 .window ≡ d ∷ (ds ++ also4 .more)
+  window4 d ds w = also4 .window ∙ ap (λ (es : List Entry). es ++ also4 .more) (window3 .window ∙ w)
+
+  -- where it halts with no store waiting, the core has stopped
+  pub halts4 : (d : Entry) (ds : List Entry) (h : Stop) → k2 .window ≡ d ∷ ds → d .outcome ≡ Some (Halts h) → k2 .stores ≡ [] → halted k4 ≡ some (how h)
+  halts4 d ds h w o e =
+      let less = left3 .less in
+      let same = ap length (also4 .stores) in
+      let none2 : length (k2 .stores) ≡ 0 = ap length e in
+      let idle = idle-device (x .at .code) (x .at .mem) (x .at .start) k4 _ (later .inv) d (ds ++ also4 .more) (window4 d ds w) (Halts h) o tt in
+      halted-is k4 d (ds ++ also4 .more) h (window4 d ds w) o (nil-of (k4 .stores) (omega arith)) idle

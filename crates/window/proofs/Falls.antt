@@ -34,13 +34,12 @@ use Rattle.window.specs.declared.entry.DeviceRead.the-variants.{Idle, Waiting,
 use Rattle.window.specs.declared.entry.Source.the-variants.{Memory}
 use Rattle.window.specs.Entries.{given, number, fresh}
 use Rattle.window.specs.Newest.{source}
-use Rattle.window.specs.Machine.{Core, Asked, drain, ask-load, ask-device, next-pc, halts-if, halts-outcome, halts-oldest, halted}
+use Rattle.window.specs.Machine.{Core, Asked, drain, ask-load, ask-device, next-pc, halted}
 use Rattle.window.specs.Clocks.{Port, loads, drains, asks-device, room, request-if, fetch-if, fetch-room, Wanted, Schedule, State, ruled, chosen-port, posted, chosen-fetch, next, machine}
 use Rattle.window.specs.Fairness.{has, is-load, any, load-open, is-idle, is-answered, store-room, ready, needs-drain, Served, Fair-clock, Fair}
 use Rattle.window.proofs.Cases.{clash, some-none, Some-None}
 use Rattle.window.proofs.RuleCases.{load-asked, device-asked}
 use Rattle.window.proofs.Invariant.{seen, readings, device-tags}
-use Rattle.window.proofs.RetireKept.{idle-device}
 use Rattle.window.proofs.Counted.{Few, clock-few}
 use Rattle.window.proofs.Marks.{is-device, is-fetch, spot, Young, spot-any, spot-none, spot-new, spot-young, Spared, spot-on, any-pop, pop-length}
 use Rattle.window.proofs.Slots.{frees, frees-least, frees-16, frees-1, frees-le, frees-full}
@@ -48,7 +47,7 @@ use Rattle.window.proofs.Onward.{More, Grows, Onward, rules-onward, Head-grown
 use Rattle.window.proofs.Taken.{head-word, head-loaded}
 use Rattle.window.proofs.AtPort.{drained, asked-oldest, asked-device}
 use Rattle.window.proofs.Rank.{wait, wait-most, load-rank, device-rank, outcome-rank, load-most, device-most, outcome-most, oldest-rank, window-rank, load-age, device-age, code-age, port-wait, core-rank}
-use Rattle.window.proofs.Clocked.{Kept, Also, full, holds, requests-aged, fetches-aged, ins, old, new, k0, k1, k2, k3, k4, asked, q0, q1, requests-later, codes-later, young1, codes-young1, falling1, few0, later, took1, window3, left3, also4, requests2, one-use, no-room, older}
+use Rattle.window.proofs.Clocked.{Kept, Also, full, holds, requests-aged, fetches-aged, ins, old, new, k0, k1, k2, k3, k4, asked, q0, q1, requests-later, codes-later, young1, codes-young1, falling1, few0, later, took1, window3, left3, also4, requests2, one-use, no-room, older, window4, halts4}
 
 -- a reading of a device that waits has its tag open
 device-open : (ts : List Tag) → device-tags ts ≡ 1 → any (map is-device ts) ≡ true
@@ -80,10 +79,6 @@ or-left false b h = refl
 or-right : (a b : Bool) → a || b ≡ false → b ≡ false
 or-right true b h = clash refl h
 or-right false b h = h
-
-nil-of : {A : Type 0} (xs : List A) → length xs ≡ 0 → xs ≡ []
-nil-of [] q = refl
-nil-of (x ∷ xs) q = absurd (omega arith)
 
 module _ {T : Type 0} (s : Schedule T) (f : Fair s) {l : ℕ} (x : Clock (machine s) l) where
   abbrev z : State T
@@ -201,7 +196,7 @@ module _ {T : Type 0} (s : Schedule T) (f : Fair s) {l : ℕ} (x : Clock (machin
     -- the oldest before the clock, after the answers, after the rules
     module _ (e e1 d : Entry) (es es1 ds : List Entry) (w0 : k0 s x .window ≡ e ∷ es) (w1 : k1 s x .window ≡ e1 ∷ es1) (w2 : k2 s x .window ≡ d ∷ ds) (m1 : More e e1) (m2 : More e1 d) where
       w4 : k4 s x .window ≡ d ∷ (ds ++ also4 s x .more)
-      w4 = also4 s x .window ∙ ap (λ w. w ++ also4 s x .more) (window3 s x .window ∙ w2)
+      w4 = window4 s x d ds w2
 
       same-outcome : (o : Outcome) → e .outcome ≡ Some o → d .outcome ≡ Some o
       same-outcome o q = m2 .outcome o (m1 .outcome o q)
@@ -387,14 +382,7 @@ module _ {T : Type 0} (s : Schedule T) (f : Fair s) {l : ℕ} (x : Clock (machin
         where
           by : (ps : List Store) → k2 s x .stores ≡ ps → Result ((l + 2) + E1) ((l + 2) + E0)
           by (p ∷ ps) g = let t = stores-fall (Halts h) refl (rw g (omega arith)) (serves (Halts h) q) in inr (omega arith)
-          by [] g =
-              let a = left3 s x .less in
-              let b = ap length g in
-              let c = ap length (also4 s x .stores) in
-              let s4 : k4 s x .stores ≡ [] = nil-of (k4 s x .stores) (omega arith) in
-              let d4 = same-outcome (Halts h) q in
-              let i4 = idle-device (x .at .code) (x .at .mem) (x .at .start) (k4 s x) _ (later s x .inv) d (ds ++ also4 s x .more) w4 (Halts h) d4 tt in
-              inl (how h, ap (halts-oldest (k4 s x)) w4 ∙ ap (λ o. given o none (halts-outcome (k4 s x))) d4 ∙ (λ i. halts-if (s4 i) (i4 i) (how h)))
+          by [] g = inl (how h, halts4 s x d ds h w2 (same-outcome (Halts h) q) g)
 
       outcome-falls : (o : Outcome) → e .outcome ≡ Some o
           → Result (outcome-rank l (f .late z′) E1 (d .loaded) (k4 s x .device) (load-age (k4 s x) (new s x)) (device-age (k4 s x) (new s x)) o)

@@ -27,11 +27,10 @@ use Rattle.window.specs.Machine.{Core, none-retired, retire-outcome, retire-ol
 use Rattle.window.specs.Clocks.{Move, rest, reads-left, reads-right, executes, forwards, redirects, retires, move, Schedule, State, run-rules, ruled, next, machine}
 use Rattle.window.specs.Fairness.{Fair, Window-goes-on}
 use Rattle.window.proofs.Cases.{some-none}
-use Rattle.window.proofs.RetireKept.{idle-device}
 use Rattle.window.proofs.Slots.{frees, frees-least, frees-le, frees-16, frees-1, falling-outside}
 use Rattle.window.proofs.Onward.{More, Onward, move-onward, rules-onward, Head-grown, head-grown}
 use Rattle.window.proofs.Rank.{load-age, device-age, code-age, port-wait, core-rank, window-most}
-use Rattle.window.proofs.Clocked.{holds, k0, k1, k2, k4, later, took1, window3, left3, also4}
+use Rattle.window.proofs.Clocked.{holds, k0, k1, k2, k4, took1, halts4}
 use Rattle.window.proofs.Falls.{falls}
 use Rattle.window.proofs.StoresOut.{owed, store-rank, drains-fair}
 
@@ -91,10 +90,6 @@ rules-halting (r ∷ rs) t k e es j we eo =
     ap (λ (ts : List Ret). ts ++ run-rules rs (r t k .1) (move x k .core) .rets) n
     ∙ rules-halting rs (r t k .1) (move x k .core) (d .head) (d .tail) j (d .is) (d .more .outcome (Halts j) eo)
 
-nil-of : {A : Type 0} (xs : List A) → length xs ≡ 0 → xs ≡ []
-nil-of [] q = refl
-nil-of (x ∷ xs) q = absurd (omega arith)
-
 module _ {T : Type 0} (s : Schedule T) (f : Fair s) where
   abbrev rank : ℕ → State T → O → ℕ
   rank l z o = core-rank l (f .work z) (f .late z) (z .core) o
@@ -131,15 +126,7 @@ module _ {T : Type 0} (s : Schedule T) (f : Fair s) where
       let quiet = rules-halting (s .rules) (s .hears (x .answers) (x .at .state .tables) (k0 s x)) (k1 s x) (a .head) (a .tail) (h .stop) (a .is) o1 in
       let on = rules-onward (s .rules) (s .hears (x .answers) (x .at .state .tables) (k0 s x)) (k1 s x) quiet in
       let b = head-grown (k1 s x .window) (k2 s x .window) (a .head) (a .tail) (a .is) (on .window) in
-      let o2 = b .more .outcome (Halts (h .stop)) o1 in
-      let w4 : k4 s x .window ≡ b .head ∷ (b .tail ++ also4 s x .more) =
-      also4 s x .window ∙ ap (λ (w : List Entry). w ++ also4 s x .more) (window3 s x .window ∙ b .is) in
-      let s2 : length (k2 s x .stores) ≡ 0 = ap length (on .stores ∙ took1 s x .stores ∙ h .stores) in
-      let less = left3 s x .less in
-      let same = ap length (also4 s x .stores) in
-      let s4 : k4 s x .stores ≡ [] = nil-of (k4 s x .stores) (omega arith) in
-      let i4 = idle-device (x .at .code) (x .at .mem) (x .at .start) (k4 s x) _ (later s x .inv) (b .head) (b .tail ++ also4 s x .more) w4 (Halts (h .stop)) o2 tt in
-      (how (h .stop), ap (halts-oldest (k4 s x)) w4 ∙ ap (λ o. given o none (halts-outcome (k4 s x))) o2 ∙ (λ i. halts-if (s4 i) (i4 i) (how (h .stop))))
+      (how (h .stop), halts4 s x (b .head) (b .tail) (h .stop) (b .is) (b .more .outcome (Halts (h .stop)) o1) (on .stores ∙ took1 s x .stores ∙ h .stores))
 
   retires-fair : Retires (machine s) rank
   retires-fair = record { bounded = λ p. bounded p; falls = λ x u w. rank-falls x u w; stays = λ x j e. stop-stays x j e }

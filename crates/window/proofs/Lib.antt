@@ -32,3 +32,4 @@ pub mod GoesOn
 pub mod OldestReady
 pub mod OldestFirst
 pub mod Refined
+pub mod QueueList

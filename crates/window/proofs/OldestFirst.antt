@@ -175,20 +175,23 @@ module _ {U : Type 0} (p : Policy U) (size : ltb 0 (p .size) ≡ true) (z : Stat
     on : Onward k1 k2
     on = rules-onward (oldest-first p .rules) t1 k1 quiet
 
+    -- the rules after those of the oldest
+    abbrev rest-rules : List ((Bool × U) → Core → Move × (Bool × U))
+    rest-rules = map (lifted p) (p .others) ++ (always p (forwards 0) ∷ [])
+
+    quiet-rest : run-rules rest-rules t1 (three (retire k1 .core)) .rets ≡ []
+    quiet-rest = nil-right (retire k1 .rets) (run-rules rest-rules t1 (three (retire k1 .core)) .rets) quiet
+
+    on-rest : Onward (three (retire k1 .core)) k2
+    on-rest = rules-onward rest-rules t1 (three (retire k1 .core)) quiet-rest
+
     -- with its word, the oldest has less to learn
     works : (e : Entry) (es : List Entry) → k0 .window ≡ e ∷ es → has (e .word) ≡ true → (d : Entry) (ds : List Entry) → k2 .window ≡ d ∷ ds → d .outcome ≡ None
         → head-needs (next (oldest-first p) z i .core .window) < head-needs (k0 .window)
     works e es w0 hw d ds w2 od =
         let a = head-grown (k0 .window) (k1 .window) e es w0 (took1 .window) in
-        let g = gains k1 (a .head) (a .tail) (a .is) (a .more .word hw) (no-outcome (a .head) (a .tail) (a .is) (a .head .outcome) refl) in
-        let rest-on = rules-onward (map (lifted p) (p .others) ++ (always p (forwards 0) ∷ [])) t1 (three (retire k1 .core)) (nil-right (retire k1 .rets) _ quiet) in
-        let g1 : Gains (three (retire k1 .core)) (a .head) = subst (λ j. Gains (three j) (a .head)) (sym (retire-rest k1 none-retired1)) g in
-        let b = head-grown (three (retire k1 .core) .window) (k2 .window) (g1 .head) (g1 .tail) (g1 .window) (rest-on .window) in
-        let same : b .head ≡ d = heads (sym (b .is) ∙ w2) in
-        let n1 = needs-less (g1 .head) (b .head) (b .more) in
-        let n2 = ap needs same in
-        let n3 = g1 .less in
-        let n4 = needs-less e (a .head) (a .more) in
+        let n1 = learns (a .head) (a .tail) (a .is) (a .more .word hw) (no-outcome (a .head) (a .tail) (a .is) (a .head .outcome) refl) in
+        let n2 = needs-less e (a .head) (a .more) in
         let al = also (fetch-room (posted (oldest-first p) z i .core)) (chosen-fetch (oldest-first p) z i) (posted (oldest-first p) z i .core) in
         let pw = port-window (room k2) (chosen-port (oldest-first p) z i) k2 in
         let h4 : head-needs (next (oldest-first p) z i .core .window) ≡ needs d = ap head-needs (al .window ∙ ap (λ (w : List Entry). w ++ al .more) (pw .window ∙ w2)) in
@@ -197,6 +200,16 @@ module _ {U : Type 0} (p : Policy U) (size : ltb 0 (p .size) ≡ true) (z : Stat
       where
         heads : {x y : Entry} {xs ys : List Entry} → x ∷ xs ≡ y ∷ ys → x ≡ y
         heads q = cc
+
+        -- by one of the rules after the first
+        learns : (e1 : Entry) (es1 : List Entry) → k1 .window ≡ e1 ∷ es1 → has (e1 .word) ≡ true → e1 .outcome ≡ None → needs d < needs e1
+        learns e1 es1 w1 hw eo =
+            let g = subst (λ j. Gains (three j) e1) (sym (retire-rest k1 none-retired1)) (gains k1 e1 es1 w1 hw eo) in
+            let b = head-grown (three (retire k1 .core) .window) (k2 .window) (g .head) (g .tail) (g .window) (on-rest .window) in
+            let n1 = needs-less (g .head) (b .head) (b .more) in
+            let n2 = ap needs (heads (sym (b .is) ∙ w2)) in
+            let n3 = g .less in
+            omega arith
 
         no-outcome : (e1 : Entry) (es1 : List Entry) → k1 .window ≡ e1 ∷ es1 → (o : Option Outcome) → e1 .outcome ≡ o → e1 .outcome ≡ None
         no-outcome e1 es1 w1 None q = q

@@ -10,3 +10,4 @@ pub mod Rings
 pub mod Fairness
 pub mod OldestFirst
 pub mod Refining
+pub mod Queues

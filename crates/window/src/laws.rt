@@ -2,6 +2,7 @@
 ghost use Rattle.window.specs.Right.{Window-right};
 ghost use Rattle.window.specs.Fairness.{Window-goes-on};
 ghost use Rattle.window.specs.OldestFirst.{Oldest-first-fair};
+ghost use Rattle.window.specs.Queues.{Queue-laws};
 ghost use Rattle.window.specs.Refining.{Refine-laws};
 ghost use Rattle.window.specs.Rings.{Ring-laws, Buffer-laws};
 
@@ -43,6 +44,13 @@ pub fn ring_is_list() -> bool
 // And so the store buffer.
 pub fn buffer_is_list() -> bool
     ensures { λ _. ⌜ Buffer-laws ⌝ }
+{
+    true
+}
+
+// And so the queues of open requests and of wanted words of code.
+pub fn queues_are_lists() -> bool
+    ensures { λ _. ⌜ Queue-laws ⌝ }
 {
     true
 }

@@ -2,5 +2,6 @@
 pub mod entry;
 pub mod known;
 pub mod laws;
+pub mod queues;
 pub mod ring;
 pub mod stores;
