@@ -1,7 +1,7 @@
 -- What the world does in a clock, in the terms of the outside.
 use mathlib.Core.Path.{_≡_}
 use mathlib.Core.Bool.{false}
-use mathlib.Core.List.{List, _∷_}
+use mathlib.Core.List.{List, [], _∷_, _++_}
 use Prim.Native.Nat.{ℕ, _/_, _≤_}
 use Rattle.std.specs.Of.Vec.{vec-items}
 use Rattle.std.specs.Of.VecDeque.{deque-items}
@@ -11,6 +11,7 @@ use Rattle.isa.specs.Manual.{device}
 use Rattle.pins.specs.Ports.{Req, reads, writes1}
 use Rattle.pins.specs.Outside.{mem-by, told-by}
 use Rattle.pins.specs.declared.ports.Inputs.{Inputs}
+use Rattle.pins.specs.declared.ports.Outputs.{Outputs}
 use Rattle.pins.specs.declared.ports.Request.{Request}
 use Rattle.pins.specs.declared.ports.Request.the-variants.{Read, Write}
 use Rattle.reference.specs.Memory.{words-of}
@@ -35,6 +36,21 @@ pub record Keeps-code (b f : World) : Type 0 where
   pub code-same : f .code ≡ b .code
   pub wants-same : f .wants ≡ b .wants
   pub requests-same : f .requests ≡ b .requests
+  pub clock-same : f .clock ≡ b .clock
+
+pub record Keeps-rest (b f : World) : Type 0 where
+  pub code-same : f .code ≡ b .code
+  pub data-same : f .«data» ≡ b .«data»
+  pub wants-same : f .wants ≡ b .wants
+  pub told-same : f .told ≡ b .told
+  pub clock-same : f .clock ≡ b .clock
+
+pub record Keeps-open (b f : World) : Type 0 where
+  pub code-same : f .code ≡ b .code
+  pub data-same : f .«data» ≡ b .«data»
+  pub wants-same : f .wants ≡ b .wants
+  pub requests-same : f .requests ≡ b .requests
+  pub told-same : f .told ≡ b .told
   pub clock-same : f .clock ≡ b .clock
 
 -- the word of code that was wanted longest, or none
@@ -66,3 +82,16 @@ pub record Gives (b f : World) (i : Inputs) : Type 0 where
   pub replies : Replies b f (i .answer)
   pub code-same : f .code ≡ b .code
   pub clock-same : f .clock ≡ b .clock
+
+-- what is asked comes last
+abbrev pub Adds : {T : Type 0} → List (Open T) → List (Open T) → Option T → Type 0
+Adds before later None = later ≡ before
+Adds {T} before later (Some x) = (w : Open T) × (w .asked ≡ x) × (later ≡ before ++ w ∷ [])
+
+-- what is asked in a clock
+pub record Takes (b f : World) (o : Outputs) : Type 0 where
+  pub wants-more : Adds (open-wants b) (open-wants f) (o .want)
+  pub requests-more : Adds (open-requests b) (open-requests f) (o .request)
+  pub code-same : f .code ≡ b .code
+  pub data-same : f .«data» ≡ b .«data»
+  pub told-same : f .told ≡ b .told

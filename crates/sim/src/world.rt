@@ -1,6 +1,7 @@
 // Memories and devices, clock by clock.
 ghost use Rattle.std.specs.Vec.{made};
-ghost use Rattle.sim.specs.Worlds.{Fetches, Answers, Gives, Keeps-code, Keeps-data};
+ghost use Rattle.std.specs.declared.option.Option.the-variants.{Some};
+ghost use Rattle.sim.specs.Worlds.{open-wants, open-requests, Fetches, Answers, Gives, Adds, Takes, Keeps-code, Keeps-data, Keeps-rest, Keeps-open};
 use crate::delay::Delay;
 use crate::devices::Devices;
 use crate::error::WorldError;
@@ -94,27 +95,47 @@ impl World {
     }
 
     // Takes what is asked in this clock, which then is over.
-    pub fn take(&mut self, outs: &Outputs) -> Result<(), WorldError> {
+    pub fn take(&mut self, outs: &Outputs) -> Result<(), WorldError>
+        ensures { λ r. ⌜ made r (λ _. Takes (now (self .entry)) (now (self .exit)) (now (outs .entry))) ⌝ }
+    {
         if let Some(address) = outs.want {
-            if self.wants.is_full() {
-                return Err(WorldError::TooManyWants);
-            }
-            let due = self.due();
-            self.wants.push(address, due)?;
+            self.take_want(address)?;
         }
         if let Some(request) = outs.request {
-            if self.requests.is_full() {
-                return Err(WorldError::TooManyRequests);
-            }
-            let due = self.due();
-            self.requests.push(request, due)?;
+            self.take_request(request)?;
         }
         self.clock = self.clock.saturating_add(1);
         Ok(())
     }
 
+    fn take_want(&mut self, address: u32) -> Result<(), WorldError>
+        ensures want { λ r. ⌜ made r (λ _. Adds (open-wants (now (self .entry))) (open-wants (now (self .exit))) (Some address)) ⌝ }
+        ensures rest { λ _. ⌜ Keeps-data (now (self .entry)) (now (self .exit)) ⌝ }
+    {
+        if self.wants.is_full() {
+            return Err(WorldError::TooManyWants);
+        }
+        let due = self.due();
+        self.wants.push(address, due)?;
+        Ok(())
+    }
+
+    fn take_request(&mut self, request: Request) -> Result<(), WorldError>
+        ensures request { λ r. ⌜ made r (λ _. Adds (open-requests (now (self .entry))) (open-requests (now (self .exit))) (Some request)) ⌝ }
+        ensures rest { λ _. ⌜ Keeps-rest (now (self .entry)) (now (self .exit)) ⌝ }
+    {
+        if self.requests.is_full() {
+            return Err(WorldError::TooManyRequests);
+        }
+        let due = self.due();
+        self.requests.push(request, due)?;
+        Ok(())
+    }
+
     // The first clock that may answer what is asked in this one.
-    fn due(&mut self) -> u64 {
+    fn due(&mut self) -> u64
+        ensures { λ _. ⌜ Keeps-open (now (self .entry)) (now (self .exit)) ⌝ }
+    {
         let wait = self.delay.pick(&mut self.rng);
         self.clock.saturating_add(1 + u64::from(wait))
     }

@@ -1,8 +1,8 @@
 // Random programs: few registers and addresses, so that instructions depend on one another.
 ghost use Prim.Native.Nat.{_≤_};
-use asm::encode::encode;
 use asm::program::Placed;
 use asm::program::Program;
+use encoding::encode;
 use isa::instr::AluOp;
 use isa::instr::Cond;
 use isa::instr::Instr;
