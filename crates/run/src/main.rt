@@ -1,6 +1,7 @@
 // Runs a program on the core and prints what is done, clock by clock.
 mod options;
 mod program;
+mod record;
 
 use testbench::failure::Failure;
 use testbench::failure::report;

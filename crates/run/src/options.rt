@@ -25,6 +25,10 @@ or .mem. Numbers are decimal, or 0x and hexadecimal.
   --seed N               other random numbers (first 1)
   --clocks N             end after N clocks (first 100000)
   --quiet                print only the last lines
+  --vcd FILE             write waveforms, a value change dump of the ports and
+                         of the inside of the core, 10 ns to a clock
+  --log FILE             write a commit log, a line for each instruction done,
+                         as the simulator Spike does
   --start ADDRESS        begin at this address
   --data ADDRESS=WORD,.. first data, besides that of the program
   --answers N,N,..       what devices answer, after the program's answers;
@@ -34,6 +38,7 @@ or .mem. Numbers are decimal, or 0x and hexadecimal.
 
 Example:
   run --delay 7 --data 0x100=5,0x104=6 --answers 99 loop.s
+  run --quiet --vcd loop.vcd --log loop.log loop.s
 ";
 
 #[derive(Drop)]
@@ -45,6 +50,8 @@ pub struct Options {
     pub clocks: u32,
     pub quiet: bool,
     pub help: bool,
+    pub vcd: Option<String>,
+    pub log: Option<String>,
     pub start: Option<u32>,
     pub data: Vec<Placed>,
     pub answers: Vec<u32>,
@@ -58,6 +65,8 @@ enum Flag {
     Random,
     Seed,
     Clocks,
+    Vcd,
+    Log,
     Start,
     Data,
     Answers,
@@ -71,6 +80,8 @@ impl Flag {
             "--random" => Some(Flag::Random),
             "--seed" => Some(Flag::Seed),
             "--clocks" => Some(Flag::Clocks),
+            "--vcd" => Some(Flag::Vcd),
+            "--log" => Some(Flag::Log),
             "--start" => Some(Flag::Start),
             "--data" => Some(Flag::Data),
             "--answers" => Some(Flag::Answers),
@@ -85,6 +96,8 @@ impl Flag {
             Flag::Random => "--random",
             Flag::Seed => "--seed",
             Flag::Clocks => "--clocks",
+            Flag::Vcd => "--vcd",
+            Flag::Log => "--log",
             Flag::Start => "--start",
             Flag::Data => "--data",
             Flag::Answers => "--answers",
@@ -103,6 +116,8 @@ impl Options {
             clocks: 100_000,
             quiet: false,
             help: false,
+            vcd: None,
+            log: None,
             start: None,
             data: Vec::new(heap),
             answers: Vec::new(heap),
@@ -162,6 +177,8 @@ impl Options {
             Flag::Random => self.delay = Delay::UpTo(read_number(heap, name, text)?),
             Flag::Seed => self.seed = read_number(heap, name, text)?,
             Flag::Clocks => self.clocks = read_number(heap, name, text)?,
+            Flag::Vcd => self.vcd = Some(String::from_str(heap, text)?),
+            Flag::Log => self.log = Some(String::from_str(heap, text)?),
             Flag::Start => self.start = Some(read_number(heap, name, text)?),
             Flag::Data => read_placed(heap, name, text, &mut self.data)?,
             Flag::Answers => read_numbers(heap, name, text, &mut self.answers)?,

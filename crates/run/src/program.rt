@@ -1,6 +1,7 @@
 // The program to run, with what the options add, and its run.
 use crate::options::HELP;
 use crate::options::Options;
+use crate::record::Recorder;
 use asm::program::Program;
 use std::alloc::AllocError;
 use std::env;
@@ -9,9 +10,11 @@ use testbench::failure::FailureFromAlloc;
 use testbench::failure::FailureFromIo;
 use testbench::files::Format;
 use testbench::files::read_program;
+use testbench::session::Session;
 use testbench::setup::Setup;
+use testbench::summary::Summary;
 use testbench::summary::SummaryDisplay;
-use testbench::trace::trace;
+use testbench::trace::show;
 
 pub fn run(rt: &LibcRuntime) -> Result<(), Failure> {
     let heap = rt.alloc();
@@ -27,7 +30,7 @@ pub fn run(rt: &LibcRuntime) -> Result<(), Failure> {
     let format = options.format.unwrap_or(Format::of(path));
     let mut program = read_program(rt, path, format)?;
     add_options(&mut program, &options)?;
-    show(rt, &program, &options)
+    run_program(rt, &program, &options)
 }
 
 fn add_options(program: &mut Program, options: &Options) -> Result<(), AllocError> {
@@ -38,7 +41,7 @@ fn add_options(program: &mut Program, options: &Options) -> Result<(), AllocErro
     program.answers.extend_from_slice(&options.answers)
 }
 
-fn show(rt: &LibcRuntime, program: &Program, options: &Options) -> Result<(), Failure> {
+fn run_program(rt: &LibcRuntime, program: &Program, options: &Options) -> Result<(), Failure> {
     let setup = Setup {
         program,
         delay: options.delay,
@@ -46,12 +49,34 @@ fn show(rt: &LibcRuntime, program: &Program, options: &Options) -> Result<(), Fa
         seed: u64::from(options.seed),
     };
     let mut session = setup.session(rt.alloc())?;
-    let limit = u64::from(options.clocks);
-    let from = if options.quiet { limit } else { 0 };
-    let summary = trace(rt, &mut session, from, limit)?;
+    let mut recorder = Recorder::create(rt, &options.vcd, &options.log)?;
+    let summary = run_clocks(rt, &mut session, &mut recorder, options)?;
+    recorder.finish(summary.clocks)?;
     if summary.stopped.is_none() {
+        let limit = options.clocks;
         println!(rt, "not stopped after {limit} clocks")?;
     }
     println!(rt, "{summary}")?;
     Ok(())
+}
+
+// Runs until it stops, or up to the limit of clocks.
+fn run_clocks(
+    rt: &LibcRuntime,
+    session: &mut Session,
+    recorder: &mut Recorder,
+    options: &Options,
+) -> Result<Summary, Failure> {
+    let mut summary = Summary::new();
+    for _ in 0..options.clocks {
+        let clock = recorder.clock(session)?;
+        summary.add(&clock);
+        if !options.quiet {
+            show(rt, &session.world.code, &clock)?;
+        }
+        if summary.stopped.is_some() {
+            break;
+        }
+    }
+    Ok(summary)
 }

@@ -45,6 +45,11 @@ impl Session {
         }
     }
 
+    // The words of the core, as the next clock finds them.
+    pub fn core(&self) -> &[u32] {
+        &self.core
+    }
+
     // One clock of the core and the world.
     pub fn clock(&mut self) -> Result<Clock, Failure> {
         let number = self.world.clock;

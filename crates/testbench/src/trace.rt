@@ -35,7 +35,8 @@ pub fn trace(
     Ok(summary)
 }
 
-fn show(rt: &LibcRuntime, code: &Memory, clock: &Clock) -> Result<(), Failure> {
+// What is done and asked in a clock, and whether it stops.
+pub fn show(rt: &LibcRuntime, code: &Memory, clock: &Clock) -> Result<(), Failure> {
     let number = clock.number;
     for retired in clock.done() {
         let line = instruction(rt.alloc(), *retired, code.get(retired.pc / 4))?;
