@@ -6,19 +6,17 @@ use mathlib.Core.Option.{Option as Opt, some, none}
 use Prim.Native.Nat.{ℕ, zero, suc, _+_, _/_}
 use lib.Dec.{eqb, leb}
 use lib.ListN.{length}
-use Rattle.std.specs.declared.option.Option.{Option}
-use Rattle.std.specs.declared.option.Option.the-variants.{Some, None}
 use Rattle.isa.specs.Words.{pick, opt, add}
-use Rattle.isa.specs.Manual.{Code, Mem}
+use Rattle.isa.specs.Manual.{Code}
 use Rattle.isa.specs.declared.execute.Outcome.{Outcome}
 use Rattle.isa.specs.declared.execute.Outcome.the-variants.{Write as Writes, Jump as Jumps, Load as Loads, Store as Stores, Halt as Halts}
-use Rattle.pins.specs.Ports.{In, Out, Req, reads, writes1}
+use Rattle.pins.specs.Ports.{In, Req, reads, writes1}
 use Rattle.pins.specs.Outside.{Want, Wish, O, begin, after}
 use Rattle.pins.specs.Cases.{words, program, sevens}
 use Rattle.window.specs.declared.entry.Entry.{Entry}
 use Rattle.window.specs.Entries.{given}
 use Rattle.window.specs.Machine.{Core, next-pc, begun}
-use Rattle.window.specs.Clocks.{Move, rest, reads-left, reads-right, executes, forwards, redirects, Port, leaves, loads, Schedule, State, machine, next, shown}
+use Rattle.window.specs.Clocks.{Move, rest, reads-left, reads-right, executes, forwards, redirects, Port, leaves, loads, State, next, shown}
 use Rattle.window.specs.Fairness.{has, load-open}
 use Rattle.window.specs.OldestFirst.{Policy, oldest-first}
 
