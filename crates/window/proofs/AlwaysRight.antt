@@ -1,13 +1,13 @@
 -- Every core with a window is always right, whatever its schedule and its predictor.
 use mathlib.Core.Path.{_≡_, refl, sym, _∙_, ap, subst}
-use mathlib.Core.Bool.{Bool, true, false}
+use mathlib.Core.Bool.{true}
 use mathlib.Core.List.{List, [], _∷_, _++_, append-nil}
-use mathlib.Core.Option.{Option as Opt, some, none}
+use mathlib.Core.Option.{some}
 use Prim.Native.Nat.{ℕ, suc, _+_, _/_, _<_, _≤_}
 use native.Mathlib.Omega.{arith}
 use lib.ListN.{length, length-append}
 use Rattle.isa.specs.Words.{pick}
-use Rattle.isa.specs.Manual.{Code, Mem, S, Ev, asks, step, goes, stops, run, asked, wrote, after1, device}
+use Rattle.isa.specs.Manual.{Code, Mem, S, step, stops, run, asked, wrote, after1, device}
 use Rattle.isa.specs.Runs.{Begins, more-answers}
 use Rattle.isa.specs.Executing.{enact}
 use Rattle.isa.specs.declared.reg.Reg.{Reg}
@@ -26,7 +26,7 @@ use Rattle.window.specs.declared.entry.DeviceRead.{DeviceRead}
 use Rattle.window.specs.declared.entry.DeviceRead.the-variants.{Idle, Waiting, Answered}
 use Rattle.window.specs.Operands.{plan}
 use Rattle.window.specs.Machine.{Core, begun, halted}
-use Rattle.window.specs.Clocks.{Schedule, State, machine}
+use Rattle.window.specs.Clocks.{Schedule, machine}
 use Rattle.window.specs.Right.{Window-right}
 use Rattle.window.proofs.Outcomes.{step-plan}
 use Rattle.window.proofs.Lines.{line-nil}

@@ -1,5 +1,5 @@
 -- The rules that take answers, and the one that fetches, keep the invariant.
-use mathlib.Core.Path.{_≡_, refl, sym, _∙_, ap, subst}
+use mathlib.Core.Path.{_≡_, refl, sym, _∙_, ap}
 use mathlib.Core.List.{List, [], _∷_, _++_, append-nil}
 use mathlib.Core.Option.{Option as Opt, some, none}
 use Prim.Native.Nat.{ℕ, zero, suc, _/_}
@@ -21,15 +21,15 @@ use Rattle.window.specs.declared.entry.Tag.{Tag}
 use Rattle.window.specs.declared.entry.Tag.the-variants.{Acknowledgment, Load, Stale, Device}
 use Rattle.window.specs.declared.entry.DeviceRead.{DeviceRead}
 use Rattle.window.specs.declared.entry.DeviceRead.the-variants.{Idle, Waiting, Answered}
-use Rattle.window.specs.Entries.{fresh, number}
+use Rattle.window.specs.Entries.{fresh}
 use Rattle.window.specs.Machine.{Core, with-requests, with-fetches, learn, device-answered, get-data, take-data, get-code, take-code, tip, next-pc, fetch}
 use Rattle.window.specs.Clocks.{answer-code, answer-data}
 use Rattle.window.proofs.Cases.{some-none}
-use Rattle.window.proofs.Lines.{Agrees, Reaches, predictions}
+use Rattle.window.proofs.Lines.{Reaches, predictions}
 use Rattle.window.proofs.Claims.{Each, Head, each-head, each-push, each-map, Request, Fetch, request-map}
 use Rattle.window.proofs.Held.{Loads-word, Is-at, addresses, addresses-append, addresses-length, held-push}
-use Rattle.window.proofs.Invariant.{Seen, code-taken, data-taken, wanted, device-tags, readings, base, stand, Runs, Inv}
-use Rattle.window.proofs.LearnKept.{Maybe-better, learn-kept}
+use Rattle.window.proofs.Invariant.{Seen, code-taken, data-taken, wanted, device-tags, readings, base, stand, Inv}
+use Rattle.window.proofs.LearnKept.{learn-kept}
 
 module _ (c : Code) (m : Mem) (a : ℕ) where
   abbrev Loads-in : Core → Seen → ℕ → ℕ → Type 0

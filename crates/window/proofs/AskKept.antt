@@ -1,18 +1,18 @@
 -- The rules that ask for data keep the invariant.
-use mathlib.Core.Path.{_≡_, refl, sym, _∙_, ap, subst}
+use mathlib.Core.Path.{_≡_, refl, sym, _∙_, ap}
 use mathlib.Core.Bool.{Bool, true, false}
 use mathlib.Core.List.{List, [], _∷_, _++_, append-nil, append-assoc}
-use mathlib.Core.Option.{some, none}
-use Prim.Native.Nat.{ℕ, suc, _+_, _/_}
+use mathlib.Core.Option.{some}
+use Prim.Native.Nat.{ℕ, _+_, _/_}
 use native.Mathlib.Omega.{arith}
 use lib.ListN.{take}
-use Rattle.std.specs.declared.option.Option.the-variants.{Some, None}
+use Rattle.std.specs.declared.option.Option.the-variants.{Some}
 use Rattle.isa.specs.Words.{nth}
 use Rattle.isa.specs.Manual.{Code, Mem, S, asks, writes, device}
 use Rattle.isa.specs.declared.reg.Reg.{Reg}
 use Rattle.isa.specs.declared.execute.Outcome.{Outcome}
 use Rattle.isa.specs.declared.execute.Outcome.the-variants.{Write as Writes, Jump as Jumps, Load as Loads, Store as Stores, Halt as Halts}
-use Rattle.pins.specs.Ports.{reads, writes1}
+use Rattle.pins.specs.Ports.{reads}
 use Rattle.window.specs.declared.entry.Entry.{Entry}
 use Rattle.window.specs.declared.entry.Tag.{Tag}
 use Rattle.window.specs.declared.entry.Tag.the-variants.{Acknowledgment, Load, Stale, Device}

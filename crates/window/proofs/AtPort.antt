@@ -1,27 +1,23 @@
 -- What the use of the request port leaves.
-use mathlib.Core.Path.{_≡_, refl, sym, _∙_, ap, subst}
+use mathlib.Core.Path.{_≡_, refl, sym, _∙_, ap}
 use mathlib.Core.Bool.{Bool, true, false}
 use mathlib.Core.List.{List, [], _∷_, _++_, append-nil}
 use mathlib.Core.Option.{Option as Opt, some, none}
-use Prim.Native.Nat.{ℕ, zero, suc, _+_, _/_, _<_, _≤_}
+use Prim.Native.Nat.{ℕ, suc, _+_, _/_, _<_, _≤_}
 use native.Mathlib.Omega.{arith}
 use lib.ListN.{length}
-use Rattle.std.specs.declared.option.Option.{Option}
-use Rattle.std.specs.declared.option.Option.the-variants.{Some, None}
+use Rattle.std.specs.declared.option.Option.the-variants.{Some}
 use Rattle.isa.specs.Words.{pick, opt, nth}
-use Rattle.isa.specs.Manual.{Ev, asks, device}
+use Rattle.isa.specs.Manual.{asks, device}
 use Rattle.isa.specs.declared.reg.Reg.{Reg}
-use Rattle.isa.specs.declared.execute.Outcome.{Outcome}
 use Rattle.isa.specs.declared.execute.Outcome.the-variants.{Load as Loads}
 use Rattle.pins.specs.Ports.{Req, reads, writes1}
 use Rattle.pins.specs.Outside.{ev-of}
 use Rattle.window.specs.declared.entry.Entry.{Entry}
 use Rattle.window.specs.declared.entry.Tag.{Tag}
-use Rattle.window.specs.declared.entry.Tag.the-variants.{Acknowledgment, Load, Stale, Device}
+use Rattle.window.specs.declared.entry.Tag.the-variants.{Acknowledgment, Load, Device}
 use Rattle.window.specs.declared.entry.Store.{Store}
-use Rattle.window.specs.declared.entry.DeviceRead.{DeviceRead}
 use Rattle.window.specs.declared.entry.DeviceRead.the-variants.{Idle, Waiting, Answered}
-use Rattle.window.specs.declared.entry.Source.{Source}
 use Rattle.window.specs.declared.entry.Source.the-variants.{Memory}
 use Rattle.window.specs.Entries.{given, number}
 use Rattle.window.specs.Newest.{source}

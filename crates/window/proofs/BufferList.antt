@@ -1,21 +1,19 @@
 -- The store buffer's methods are the machine's rules on the list of waiting stores.
-use mathlib.Core.Path.{_≡_, refl, sym, _∙_, ap, subst}
-use mathlib.Core.Bool.{Bool, true, false, cond, _&&_}
+use mathlib.Core.Path.{_≡_, refl, sym, _∙_, ap}
+use mathlib.Core.Bool.{cond, _&&_}
 use mathlib.Core.List.{List, [], _∷_, _++_}
-use Prim.Native.Nat.{ℕ, zero, suc, _+_, _/_, _%_, _<_, _≤_}
+use Prim.Native.Nat.{ℕ, zero, suc, _+_, _/_, _%_, _<_}
 use native.Mathlib.Numerals.{add-one}
 use native.Mathlib.Omega.{arith}
-use lib.Dec.{eqb, ltb, leb}
-use lib.ListN.{length, getD, length-set}
-use Rattle.isa.specs.Words.{pick}
-use Rattle.isa.specs.Manual.{device}
+use lib.Dec.{eqb, ltb}
+use lib.ListN.{getD, length-set}
 use Rattle.pins.specs.PortWords.{optional}
 use Rattle.window.specs.declared.entry.Store.{Store}
 use Rattle.window.specs.declared.entry.Source.{Source}
-use Rattle.window.specs.declared.entry.Source.the-variants.{Unknown, Memory, Forwarded}
+use Rattle.window.specs.declared.entry.Source.the-variants.{Memory, Forwarded}
 use Rattle.window.specs.declared.stores.StoreBuffer.{StoreBuffer}
 use Rattle.window.specs.Newest.{by-store, row-source}
-use Rattle.window.specs.Rings.{no-store, buffer-slot, buffer-entry, buffer-pushed, buffer-popped, matches, row-below, buffer-source, around, waiting, rest, Sized-buffer, Buffer-laws}
+use Rattle.window.specs.Rings.{no-store, buffer-entry, buffer-pushed, buffer-popped, row-below, around, waiting, rest, Sized-buffer, Buffer-laws}
 use Rattle.window.proofs.Circle.{by-test, slot-is, around-length, around-push, around-pop, around-none, around-nth, around-last}
 
 waiting-push : (b : StoreBuffer) (p : Store) → Sized-buffer b → b .count < 8 → waiting (buffer-pushed b p) ≡ waiting b ++ (p ∷ [])

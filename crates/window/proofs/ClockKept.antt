@@ -1,17 +1,17 @@
 -- A clock keeps the invariant, whatever is chosen.
-use mathlib.Core.Path.{_≡_, refl, sym, _∙_, ap, subst}
+use mathlib.Core.Path.{_≡_, refl, sym, subst}
 use mathlib.Core.Bool.{Bool, true, false}
 use mathlib.Core.List.{List, [], _∷_, _++_}
 use mathlib.Core.Option.{Option as Opt, some, none}
 use Prim.Native.Nat.{ℕ}
 use Rattle.isa.specs.Manual.{Code, Mem, Ret}
-use Rattle.pins.specs.Ports.{In, Out}
+use Rattle.pins.specs.Ports.{In}
 use Rattle.pins.specs.View.{View, rets-then, clock-view, Allowed}
 use Rattle.pins.specs.View as views
 use Rattle.pins.specs.Reach.{clock-io}
 use Rattle.pins.proofs.Settling.{settled-laws}
 use Rattle.window.specs.Machine.{Core}
-use Rattle.window.specs.Clocks.{Move, rest, reads-left, reads-right, executes, forwards, redirects, retires, move, Port, leaves, loads, drains, asks-device, room, request-if, port, fetch-if, fetch-room, answer-code, answer-data, answered, Schedule, State, run-rules, heard, ruled, chosen-port, posted, chosen-fetch, next, machine}
+use Rattle.window.specs.Clocks.{Move, rest, reads-left, reads-right, executes, forwards, redirects, retires, move, Port, leaves, loads, drains, asks-device, room, request-if, fetch-if, fetch-room, answer-code, answered, Schedule, State, run-rules, heard, ruled, chosen-port, posted, chosen-fetch, next, machine}
 use Rattle.window.proofs.Invariant.{Seen, seen, retired, requested, wanted, seen-data, seen-request, Inv}
 use Rattle.window.proofs.LearnKept.{left-kept, right-kept, execute-kept, forward-kept}
 use Rattle.window.proofs.AskKept.{load-kept, drain-kept, device-kept}

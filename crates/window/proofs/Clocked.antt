@@ -1,38 +1,35 @@
 -- One clock of the machine at a point that it can come to: the states within it, and what each leaves to the next.
 use mathlib.Core.Path.{_≡_, refl, sym, _∙_, ap, subst}
 use mathlib.Core.Bool.{Bool, true, false}
-use mathlib.Core.List.{List, [], _∷_, _++_, map, map-append, append-nil}
+use mathlib.Core.List.{List, [], _∷_, _++_, map, append-nil}
 use mathlib.Core.Option.{Option as Opt, some, none}
-use Prim.Native.Nat.{ℕ, zero, suc, _+_, _<_, _≤_}
+use Prim.Native.Nat.{ℕ, suc, _+_, _<_, _≤_}
 use native.Mathlib.Omega.{arith}
 use lib.Dec.{eqb, ltb}
-use lib.ListN.{length, length-append, length-map}
+use lib.ListN.{length, length-map}
 use borrow.Author.Tests.{ltb-true, ltb-false}
 use Rattle.std.specs.declared.option.Option.{Option}
-use Rattle.std.specs.declared.option.Option.the-variants.{Some, None}
+use Rattle.std.specs.declared.option.Option.the-variants.{Some}
 use Rattle.isa.specs.Words.{nth}
 use Rattle.isa.specs.Executing.{how}
 use Rattle.isa.specs.declared.execute.Outcome.the-variants.{Halt as Halts}
 use Rattle.isa.specs.declared.execute.Stop.{Stop}
-use Rattle.pins.specs.Ports.{In, Out, Req}
-use Rattle.pins.specs.Outside.{Io, Hist, O, Want, Wish, after, ev-of}
-use Rattle.pins.specs.View.{View, view, pop, push}
+use Rattle.pins.specs.Ports.{In, Req}
+use Rattle.pins.specs.Outside.{O, Want, Wish, after, ev-of}
+use Rattle.pins.specs.View.{view, pop}
 use Rattle.pins.specs.Waits.{ages, ages1, aged, age0}
-use Rattle.pins.specs.Reach.{Reach, clocked, clock-io}
+use Rattle.pins.specs.Reach.{clocked, clock-io}
 use Rattle.pins.specs.Progress.{Point, around, Clock}
-use Rattle.pins.proofs.Queues.{map-pop}
 use Rattle.pins.proofs.Settling.{settled-laws}
 use Rattle.pins.proofs.Waiting.{wait-laws}
 use Rattle.pins.proofs.Invariants.{invariant-laws}
 use Rattle.window.specs.declared.entry.Entry.{Entry}
 use Rattle.window.specs.declared.entry.Number.{Number}
-use Rattle.window.specs.declared.entry.Tag.{Tag}
 use Rattle.window.specs.declared.entry.Store.{Store}
 use Rattle.window.specs.declared.entry.DeviceRead.the-variants.{Idle}
 use Rattle.window.specs.Entries.{given, number, fresh}
-use Rattle.window.specs.Machine.{Core, learn, read-left, read-right, execute, forward, Retired, leave, retire, Asked, next-pc, halts-if, halts-outcome, halts-oldest, halted}
-use Rattle.window.specs.Clocks.{Move, rest, reads-left, reads-right, executes, forwards, redirects, retires, move, Port, room, request-if, fetch-if, fetch-room, Schedule, State, run-rules, heard, ruled, chosen-port, posted, chosen-fetch, next, shown, machine}
-use Rattle.window.specs.Fairness.{Fair-clock, Fair}
+use Rattle.window.specs.Machine.{Core, learn, read-left, read-right, execute, forward, Retired, leave, next-pc, halts-if, halts-outcome, halts-oldest, halted}
+use Rattle.window.specs.Clocks.{Move, rest, reads-left, reads-right, executes, forwards, redirects, retires, move, room, request-if, fetch-if, fetch-room, Schedule, State, run-rules, heard, ruled, chosen-port, posted, chosen-fetch, next, shown, machine}
 use Rattle.window.proofs.Cases.{opt-cases}
 use Rattle.window.proofs.RuleCases.{learn-by, retire-by}
 use Rattle.window.proofs.Claims.{each-length}
@@ -41,7 +38,6 @@ use Rattle.window.proofs.Counted.{Few, retags-length}
 use Rattle.window.proofs.AlwaysRight.{Inv-whole, invariant}
 use Rattle.window.proofs.Marks.{Young, pop-length}
 use Rattle.window.proofs.Slots.{Falling, frees, frees-used, frees-full, frees-le, falling-outside, falling-after}
-use Rattle.window.proofs.Onward.{Onward, rules-onward}
 use Rattle.window.proofs.Taken.{Took, took}
 use Rattle.window.proofs.Fed.{Same-window, port-window}
 use Rattle.window.proofs.AtPort.{Left-over, left-over}

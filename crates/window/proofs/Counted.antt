@@ -1,11 +1,11 @@
 -- What is open, wanted and waiting is bounded: at most four, four and eight.
-use mathlib.Core.Path.{_≡_, refl, ap, sym, _∙_}
+use mathlib.Core.Path.{_≡_, refl, ap}
 use mathlib.Core.Bool.{Bool, true, false}
-use mathlib.Core.List.{List, [], _∷_, _++_}
+use mathlib.Core.List.{List, [], _∷_}
 use mathlib.Core.Option.{Option as Opt, some, none}
-use Prim.Native.Nat.{ℕ, suc, _+_, _<_, _≤_}
+use Prim.Native.Nat.{ℕ, suc, _≤_}
 use native.Mathlib.Omega.{arith}
-use lib.Dec.{eqb, ltb}
+use lib.Dec.{eqb}
 use lib.ListN.{length, length-append}
 use borrow.Author.Tests.{ltb-true}
 use Rattle.std.specs.declared.option.Option.{Option}
@@ -17,10 +17,10 @@ use Rattle.window.specs.declared.entry.Number.{Number}
 use Rattle.window.specs.declared.entry.Tag.{Tag}
 use Rattle.window.specs.declared.entry.Tag.the-variants.{Acknowledgment, Load, Stale, Device}
 use Rattle.window.specs.declared.entry.Store.{Store}
-use Rattle.window.specs.Machine.{Core, with-requests, with-fetches, learn, read-left, read-right, execute, forward, retags, renumbers, redirect, Retired, leave, retire, Asked, take-data, get-data, take-code, get-code}
-use Rattle.window.specs.Clocks.{Move, rest, reads-left, reads-right, executes, forwards, redirects, retires, move, Port, room, request-if, port, fetch-if, fetch-room, want, answer-code, answer-data, answered, Schedule, State, run-rules, heard, ruled, chosen-port, posted, chosen-fetch, next}
+use Rattle.window.specs.Machine.{Core, with-requests, with-fetches, learn, read-left, read-right, execute, forward, retags, renumbers, Retired, leave, Asked, take-data, get-data, take-code, get-code}
+use Rattle.window.specs.Clocks.{Move, rest, reads-left, reads-right, executes, forwards, redirects, retires, move, Port, room, request-if, fetch-if, fetch-room, answer-code, answer-data, answered, Schedule, State, run-rules, heard, ruled, chosen-port, posted, chosen-fetch, next}
 use Rattle.window.proofs.Cases.{opt-cases}
-use Rattle.window.proofs.RuleCases.{learn-by, Finished, retire-by, request-by}
+use Rattle.window.proofs.RuleCases.{learn-by, retire-by, request-by}
 
 pub record Few (k : Core) : Type 0 where
   pub requests : length (k .requests) ≤ 4

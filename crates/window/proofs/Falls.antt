@@ -4,11 +4,11 @@ use mathlib.Core.Bool.{Bool, true, false, _||_, _&&_, not}
 use mathlib.Core.Logic.{_⊎_, inl, inr}
 use mathlib.Core.List.{List, [], _∷_, _++_, map, map-append}
 use mathlib.Core.Option.{Option as Opt, some, none}
-use Prim.Native.Nat.{ℕ, zero, suc, _+_, _-_, _*_, _/_, _<_, _≤_}
+use Prim.Native.Nat.{ℕ, _+_, _-_, _*_, _/_, _<_, _≤_}
 use native.Mathlib.Omega.{arith}
-use lib.Dec.{eqb, ltb}
+use lib.Dec.{ltb}
 use lib.ListN.{length, length-map}
-use borrow.Author.Tests.{ltb-true, ltb-false}
+use borrow.Author.Tests.{ltb-false}
 use Rattle.std.specs.declared.option.Option.{Option}
 use Rattle.std.specs.declared.option.Option.the-variants.{Some, None}
 use Rattle.isa.specs.Words.{pick, nth}
@@ -18,11 +18,10 @@ use Rattle.isa.specs.declared.reg.Reg.{Reg}
 use Rattle.isa.specs.declared.execute.Outcome.{Outcome}
 use Rattle.isa.specs.declared.execute.Outcome.the-variants.{Write as Writes, Jump as Jumps, Load as Loads, Store as Stores, Halt as Halts}
 use Rattle.isa.specs.declared.execute.Stop.{Stop}
-use Rattle.pins.specs.Ports.{In, Out, Req, reads}
-use Rattle.pins.specs.Outside.{O, ev-of}
-use Rattle.pins.specs.View.{view, pop, push}
-use Rattle.pins.specs.Waits.{ages, ages1, aged, age0}
-use Rattle.pins.specs.Progress.{Point, Clock}
+use Rattle.pins.specs.Ports.{Req, reads}
+use Rattle.pins.specs.View.{pop}
+use Rattle.pins.specs.Waits.{ages, aged, age0}
+use Rattle.pins.specs.Progress.{Clock}
 use Rattle.pins.proofs.Queues.{map-pop}
 use Rattle.window.specs.declared.entry.Entry.{Entry}
 use Rattle.window.specs.declared.entry.Number.{Number}
@@ -32,22 +31,22 @@ use Rattle.window.specs.declared.entry.Store.{Store}
 use Rattle.window.specs.declared.entry.DeviceRead.{DeviceRead}
 use Rattle.window.specs.declared.entry.DeviceRead.the-variants.{Idle, Waiting, Answered}
 use Rattle.window.specs.declared.entry.Source.the-variants.{Memory}
-use Rattle.window.specs.Entries.{given, number, fresh}
+use Rattle.window.specs.Entries.{number, fresh}
 use Rattle.window.specs.Newest.{source}
-use Rattle.window.specs.Machine.{Core, Asked, drain, ask-load, ask-device, next-pc, halted}
-use Rattle.window.specs.Clocks.{Port, loads, drains, asks-device, room, request-if, fetch-if, fetch-room, Wanted, Schedule, State, ruled, chosen-port, posted, chosen-fetch, next, machine}
-use Rattle.window.specs.Fairness.{has, is-load, any, load-open, is-idle, is-answered, store-room, ready, needs-drain, Served, Fair-clock, Fair}
-use Rattle.window.proofs.Cases.{clash, some-none, Some-None}
+use Rattle.window.specs.Machine.{Asked, drain, next-pc, halted}
+use Rattle.window.specs.Clocks.{loads, drains, room, request-if, fetch-if, fetch-room, Wanted, Schedule, State, ruled, chosen-port, posted, chosen-fetch, next, machine}
+use Rattle.window.specs.Fairness.{has, is-load, any, is-idle, is-answered, store-room, ready, needs-drain, Served, Fair-clock, Fair}
+use Rattle.window.proofs.Cases.{clash}
 use Rattle.window.proofs.RuleCases.{load-asked, device-asked}
-use Rattle.window.proofs.Invariant.{seen, readings, device-tags}
-use Rattle.window.proofs.Counted.{Few, clock-few}
+use Rattle.window.proofs.Invariant.{readings, device-tags}
+use Rattle.window.proofs.Counted.{clock-few}
 use Rattle.window.proofs.Marks.{is-device, is-fetch, spot, Young, spot-any, spot-none, spot-new, spot-young, Spared, spot-on, any-pop, pop-length}
-use Rattle.window.proofs.Slots.{frees, frees-least, frees-16, frees-1, frees-le, frees-full}
-use Rattle.window.proofs.Onward.{More, Grows, Onward, rules-onward, Head-grown, head-grown}
+use Rattle.window.proofs.Slots.{frees, frees-least, frees-16, frees-le, frees-full}
+use Rattle.window.proofs.Onward.{More, Grows, Onward, rules-onward, head-grown}
 use Rattle.window.proofs.Taken.{head-word, head-loaded}
 use Rattle.window.proofs.AtPort.{drained, asked-oldest, asked-device}
 use Rattle.window.proofs.Rank.{wait, wait-most, load-rank, device-rank, outcome-rank, load-most, device-most, outcome-most, oldest-rank, window-rank, load-age, device-age, code-age, port-wait, core-rank}
-use Rattle.window.proofs.Clocked.{Kept, Also, full, holds, requests-aged, fetches-aged, ins, old, new, k0, k1, k2, k3, k4, asked, q0, q1, requests-later, codes-later, young1, codes-young1, falling1, few0, later, took1, window3, left3, also4, requests2, one-use, no-room, older, window4, halts4}
+use Rattle.window.proofs.Clocked.{full, holds, requests-aged, fetches-aged, old, new, k0, k1, k2, k3, k4, asked, q0, q1, requests-later, codes-later, young1, codes-young1, falling1, few0, took1, window3, left3, also4, one-use, older, window4, halts4}
 
 -- a reading of a device that waits has its tag open
 device-open : (ts : List Tag) → device-tags ts ≡ 1 → any (map is-device ts) ≡ true

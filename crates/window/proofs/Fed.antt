@@ -11,10 +11,7 @@ use lib.ListN.{length, take}
 use Rattle.std.proofs.shelf.Tests.{eq-eqb, ne-eqb}
 use Rattle.std.specs.declared.option.Option.{Option}
 use Rattle.std.specs.declared.option.Option.the-variants.{Some, None}
-use Rattle.isa.specs.Words.{pick, nth, put}
-use Rattle.isa.specs.Manual.{device}
-use Rattle.isa.specs.declared.execute.Outcome.{Outcome}
-use Rattle.isa.specs.declared.execute.Outcome.the-variants.{Write as Writes, Jump as Jumps, Load as Loads, Store as Stores, Halt as Halts}
+use Rattle.isa.specs.Words.{nth, put}
 use Rattle.pins.specs.Ports.{In}
 use Rattle.window.specs.declared.entry.Entry.{Entry}
 use Rattle.window.specs.declared.entry.Number.{Number}
@@ -22,8 +19,8 @@ use Rattle.window.specs.declared.entry.Tag.{Tag}
 use Rattle.window.specs.declared.entry.Tag.the-variants.{Acknowledgment, Load, Stale, Device}
 use Rattle.window.specs.declared.entry.Store.{Store}
 use Rattle.window.specs.Entries.{fresh, with-word, with-predicted}
-use Rattle.window.specs.Machine.{Core, with-requests, with-fetches, learn, read-left, read-right, execute, forward, kept, renumbers, redirect, Retired, leave, retire, Asked, take-data, get-data, take-code, get-code, next-pc, fetch}
-use Rattle.window.specs.Clocks.{Move, rest, reads-left, reads-right, executes, forwards, redirects, retires, move, Port, room, request-if, fetch-if, fetch-room, answer-code, answer-data, answered, Schedule, State, run-rules, heard, ruled, chosen-port, posted, chosen-fetch, next}
+use Rattle.window.specs.Machine.{Core, with-requests, with-fetches, learn, read-left, read-right, execute, forward, kept, renumbers, redirect, Retired, leave, Asked, take-data, get-data, take-code, get-code, next-pc}
+use Rattle.window.specs.Clocks.{Move, rest, reads-left, reads-right, executes, forwards, redirects, retires, move, Port, room, request-if, fetch-if, fetch-room, answer-code, answer-data, Schedule, State, run-rules, heard, ruled, chosen-port, posted, chosen-fetch, next}
 use Rattle.window.specs.Fairness.{has, any}
 use Rattle.window.proofs.Cases.{opt-cases, some-none, clash}
 use Rattle.window.proofs.RuleCases.{learn-by, retire-by, request-by}

@@ -1,10 +1,9 @@
 -- Every core with a window and a fair schedule goes on.
-use mathlib.Core.Path.{_≡_, refl, sym, _∙_, ap, subst}
-use mathlib.Core.Bool.{Bool, true, false}
+use mathlib.Core.Path.{_≡_, refl, sym, _∙_, ap}
 use mathlib.Core.Logic.{_⊎_, inl, inr}
 use mathlib.Core.List.{List, [], _∷_, _++_}
 use mathlib.Core.Option.{Option as Opt, some, none}
-use Prim.Native.Nat.{ℕ, zero, suc, _+_, _*_, _<_, _≤_}
+use Prim.Native.Nat.{ℕ, _+_, _*_, _<_, _≤_}
 use native.Mathlib.Omega.{arith}
 use lib.ListN.{length}
 use Rattle.std.specs.declared.option.Option.{Option}
@@ -24,11 +23,11 @@ use Rattle.window.specs.declared.entry.Entry.{Entry}
 use Rattle.window.specs.declared.entry.Store.{Store}
 use Rattle.window.specs.Entries.{given}
 use Rattle.window.specs.Machine.{Core, none-retired, retire-outcome, retire-oldest, halts-if, halts-outcome, halts-oldest, halted}
-use Rattle.window.specs.Clocks.{Move, rest, reads-left, reads-right, executes, forwards, redirects, retires, move, Schedule, State, run-rules, ruled, next, machine}
+use Rattle.window.specs.Clocks.{Move, rest, reads-left, reads-right, executes, forwards, redirects, retires, move, Schedule, State, run-rules, machine}
 use Rattle.window.specs.Fairness.{Fair, Window-goes-on}
 use Rattle.window.proofs.Cases.{some-none}
 use Rattle.window.proofs.Slots.{frees, frees-least, frees-le, frees-16, frees-1, falling-outside}
-use Rattle.window.proofs.Onward.{More, Onward, move-onward, rules-onward, Head-grown, head-grown}
+use Rattle.window.proofs.Onward.{move-onward, rules-onward, head-grown}
 use Rattle.window.proofs.Rank.{load-age, device-age, code-age, port-wait, core-rank, window-most}
 use Rattle.window.proofs.Clocked.{holds, k0, k1, k2, k4, took1, halts4}
 use Rattle.window.proofs.Falls.{falls}

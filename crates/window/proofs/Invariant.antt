@@ -1,16 +1,15 @@
 -- What the machine keeps true of itself and of what was seen at its ports, in the middle of a clock too.
-use mathlib.Core.Path.{_≡_, refl, sym, _∙_, ap}
+use mathlib.Core.Path.{_≡_}
 use mathlib.Core.Bool.{true}
 use mathlib.Core.List.{List, [], _∷_, _++_}
-use mathlib.Core.Option.{Option as Opt, some, none, Option·map}
+use mathlib.Core.Option.{Option as Opt, Option·map}
 use Prim.Native.Nat.{ℕ, suc}
 use lib.ListN.{length}
 use Rattle.isa.specs.Manual.{Code, Mem, S, Ret, Ev, asks, device, Run, run}
 use Rattle.isa.specs.Runs.{At, more-answers}
 use Rattle.isa.specs.declared.reg.Reg.{Reg}
 use Rattle.isa.specs.declared.execute.Outcome.the-variants.{Load as Loads}
-use Rattle.pins.specs.Ports.{In, Out, Req}
-use Rattle.pins.specs.Outside.{ev-of}
+use Rattle.pins.specs.Ports.{Req}
 use Rattle.pins.specs.Says.{first}
 use Rattle.pins.specs.View.{View, pop, push, evs-then, rets-then}
 use Rattle.pins.specs.View as views

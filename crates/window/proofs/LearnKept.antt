@@ -1,14 +1,13 @@
 -- The rules by which one instruction learns more keep the invariant.
-use mathlib.Core.Path.{_≡_, refl, sym, _∙_, ap, subst}
+use mathlib.Core.Path.{_≡_, refl, sym, _∙_, ap}
 use mathlib.Core.Bool.{Bool, true, false}
-use mathlib.Core.List.{List, [], _∷_}
-use mathlib.Core.Option.{some, none}
+use mathlib.Core.List.{List}
+use mathlib.Core.Option.{some}
 use Prim.Native.Nat.{ℕ, _/_, _<_}
-use native.Mathlib.Omega.{arith}
 use lib.ListN.{take}
 use Rattle.std.specs.declared.option.Option.{Option}
 use Rattle.std.specs.declared.option.Option.the-variants.{Some, None}
-use Rattle.isa.specs.Words.{pick, opt, nth, put}
+use Rattle.isa.specs.Words.{pick, nth, put}
 use Rattle.isa.specs.Manual.{Code, Mem, S, device}
 use Rattle.isa.specs.Registers.{value-in}
 use Rattle.isa.specs.Decoding.{decodes}
@@ -19,13 +18,13 @@ use Rattle.isa.specs.declared.execute.Outcome.the-variants.{Write as Writes, Ju
 use Rattle.window.specs.declared.entry.Entry.{Entry}
 use Rattle.window.specs.declared.entry.Source.{Source}
 use Rattle.window.specs.declared.entry.Source.the-variants.{Unknown, Memory, Forwarded}
-use Rattle.window.specs.Entries.{given, with-loaded}
-use Rattle.window.specs.Operands.{left-register, right-register, work-with, code-at, left-of, right-of, plan}
+use Rattle.window.specs.Entries.{given}
+use Rattle.window.specs.Operands.{left-register, right-register, work-with, plan}
 use Rattle.window.specs.Newest.{newest, source}
 use Rattle.window.specs.Machine.{Core, with-window, learn, read-left, read-right, execute, forwarded, forward-outcome, forward}
-use Rattle.window.proofs.Cases.{opt-cases, given-cases, clash}
+use Rattle.window.proofs.Cases.{opt-cases, given-cases}
 use Rattle.window.proofs.Outcomes.{plan-with, register-low}
-use Rattle.window.proofs.Lines.{Known, known, Loaded, Agrees, Reaches, predictions}
+use Rattle.window.proofs.Lines.{Known, known, Agrees, Reaches, predictions}
 use Rattle.window.proofs.NewestRight.{newest-right}
 use Rattle.window.proofs.SourceRight.{Is, source-right}
 use Rattle.window.proofs.Held.{held-learn}

@@ -33,3 +33,4 @@ pub mod OldestReady
 pub mod OldestFirst
 pub mod Refined
 pub mod QueueList
+pub mod EightRuns

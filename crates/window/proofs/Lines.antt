@@ -1,17 +1,15 @@
 -- The instructions at work beside the manual's states: each thing known of one is what the manual has there, if no older prediction was wrong.
 use mathlib.Core.Path.{_≡_, refl, sym, _∙_, ap, subst}
-use mathlib.Core.Bool.{Bool, true, false}
+use mathlib.Core.Bool.{false}
 use mathlib.Core.List.{List, [], _∷_, _++_}
-use mathlib.Core.Option.{some, none}
+use mathlib.Core.Option.{some}
 use Prim.Native.Nat.{ℕ, zero, suc, _/_}
-use native.Mathlib.Omega.{arith}
 use lib.ListN.{take}
 use Rattle.std.specs.declared.option.Option.{Option}
 use Rattle.std.specs.declared.option.Option.the-variants.{Some, None}
 use Rattle.isa.specs.Words.{nth, put}
 use Rattle.isa.specs.Manual.{Code, S, Ret, Ev, device, goes, step}
 use Rattle.isa.specs.declared.reg.Reg.{Reg}
-use Rattle.isa.specs.declared.execute.Outcome.{Outcome}
 use Rattle.isa.specs.declared.execute.Outcome.the-variants.{Load as Loads}
 use Rattle.window.specs.declared.entry.Entry.{Entry}
 use Rattle.window.specs.Operands.{code-at, left-of, right-of, plan}

@@ -1,13 +1,13 @@
 -- Which of the open requests is for the oldest, and how long it has waited: a queue of marks beside a queue of ages.
-use mathlib.Core.Path.{_≡_, refl, sym, _∙_, ap, subst}
-use mathlib.Core.Bool.{Bool, true, false, _||_}
+use mathlib.Core.Path.{_≡_, refl, sym, _∙_, ap}
+use mathlib.Core.Bool.{Bool, true, false}
 use mathlib.Core.List.{List, [], _∷_, _++_, map}
 use mathlib.Core.Option.{Option as Opt, some, none}
 use Prim.Native.Nat.{ℕ, zero, suc, _+_, _<_, _≤_}
 use native.Mathlib.Omega.{arith}
 use lib.Dec.{eqb, ltb}
-use lib.ListN.{length, getD, length-map}
-use borrow.Author.Tests.{eqb-true, eqb-false, ltb-true, ltb-false}
+use lib.ListN.{length, getD}
+use borrow.Author.Tests.{eqb-true, eqb-false, ltb-false}
 use Rattle.std.proofs.shelf.Tests.{eq-eqb, ne-eqb}
 use Rattle.std.specs.declared.option.Option.{Option}
 use Rattle.std.specs.declared.option.Option.the-variants.{Some, None}
@@ -18,7 +18,7 @@ use Rattle.window.specs.declared.entry.Number.{Number}
 use Rattle.window.specs.declared.entry.Tag.{Tag}
 use Rattle.window.specs.declared.entry.Tag.the-variants.{Acknowledgment, Load, Stale, Device}
 use Rattle.window.specs.Entries.{given, number}
-use Rattle.window.specs.Machine.{popped, kept, retag, retags, renumber, renumbers}
+use Rattle.window.specs.Machine.{popped, kept, retags, renumbers}
 use Rattle.window.specs.Fairness.{is-load, any}
 use Rattle.window.proofs.Cases.{some-none, clash}
 

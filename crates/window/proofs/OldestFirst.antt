@@ -1,10 +1,10 @@
 -- A schedule that puts the oldest first is fair, whatever the others do and whatever is predicted.
 use mathlib.Core.Path.{_≡_, refl, sym, _∙_, ap, subst}
-use mathlib.Core.Bool.{Bool, true, false, _||_, _&&_, not}
+use mathlib.Core.Bool.{Bool, true, false, _||_, _&&_}
 use mathlib.Core.Logic.{_⊎_, inl, inr}
 use mathlib.Core.List.{List, [], _∷_, _++_, map}
 use mathlib.Core.Option.{some, none}
-use Prim.Native.Nat.{ℕ, zero, suc, _+_, _/_, _<_, _≤_}
+use Prim.Native.Nat.{ℕ, _+_, _/_, _<_, _≤_}
 use native.Mathlib.Omega.{arith}
 use lib.Dec.{ltb}
 use lib.ListN.{length}
@@ -12,7 +12,6 @@ use Rattle.std.specs.declared.option.Option.{Option}
 use Rattle.std.specs.declared.option.Option.the-variants.{Some, None}
 use Rattle.isa.specs.Words.{pick}
 use Rattle.isa.specs.Manual.{device}
-use Rattle.isa.specs.declared.reg.Reg.{Reg}
 use Rattle.isa.specs.declared.execute.Outcome.{Outcome}
 use Rattle.isa.specs.declared.execute.Outcome.the-variants.{Write as Writes, Jump as Jumps, Load as Loads, Store as Stores, Halt as Halts}
 use Rattle.pins.specs.Ports.{In}
@@ -22,14 +21,14 @@ use Rattle.window.specs.declared.entry.DeviceRead.{DeviceRead}
 use Rattle.window.specs.declared.entry.DeviceRead.the-variants.{Idle, Waiting, Answered}
 use Rattle.window.specs.declared.entry.Source.the-variants.{Memory}
 use Rattle.window.specs.Entries.{given}
-use Rattle.window.specs.Newest.{row-source, source}
+use Rattle.window.specs.Newest.{row-source}
 use Rattle.window.specs.Machine.{Core, learn, forward, retire}
 use Rattle.window.specs.Clocks.{Move, forwards, move, Port, leaves, loads, drains, asks-device, room, fetch-room, State, run-rules, heard, ruled, chosen-port, posted, port-tables, chosen-fetch, next}
-use Rattle.window.specs.Fairness.{has, load-open, is-idle, is-answered, store-room, ready, needs-drain, Served, Fair-clock, Fair}
+use Rattle.window.specs.Fairness.{has, load-open, is-idle, is-answered, ready, needs-drain, Served, Fair-clock}
 use Rattle.window.specs.OldestFirst.{Policy, stores-first, take-turns, load-port, device-port, outcome-port, oldest-port, port-of, no-store, always, lifted, first-rules, oldest-first, Oldest-first-fair}
 use Rattle.window.proofs.Cases.{clash, Some-None}
 use Rattle.window.proofs.RuleCases.{learn-by}
-use Rattle.window.proofs.Onward.{More, Onward, rules-onward, retire-rest, Head-grown, head-grown, nil-left, nil-right}
+use Rattle.window.proofs.Onward.{More, Onward, rules-onward, retire-rest, head-grown, nil-left, nil-right}
 use Rattle.window.proofs.Taken.{Took, took}
 use Rattle.window.proofs.Fed.{port-window}
 use Rattle.window.proofs.Clocked.{also}

@@ -2,11 +2,9 @@
 use mathlib.Core.Path.{_≡_, refl, sym, _∙_, ap, subst}
 use mathlib.Core.Bool.{Bool, true, false, _||_}
 use mathlib.Core.List.{List, [], _∷_, _++_, append-assoc}
-use mathlib.Core.Option.{some, none}
-use Prim.Native.Nat.{ℕ, zero, suc, _+_, _/_, _<_, _≤_}
+use Prim.Native.Nat.{ℕ, _+_, _/_, _<_, _≤_}
 use native.Mathlib.Omega.{arith}
-use lib.Dec.{eqb, ltb}
-use lib.ListN.{length}
+use lib.Dec.{eqb}
 use Rattle.std.specs.declared.option.Option.{Option}
 use Rattle.std.specs.declared.option.Option.the-variants.{Some, None}
 use Rattle.isa.specs.Words.{pick, opt, nth, put, add}
@@ -23,12 +21,12 @@ use Rattle.window.specs.declared.entry.Source.{Source}
 use Rattle.window.specs.declared.entry.Source.the-variants.{Unknown, Memory, Forwarded}
 use Rattle.window.specs.Entries.{given, with-left, with-right, with-outcome, with-loaded}
 use Rattle.window.specs.Operands.{left-register, right-register, work-with}
-use Rattle.window.specs.Newest.{newest, by-store, row-source, source}
+use Rattle.window.specs.Newest.{newest, by-store, row-source}
 use Rattle.window.specs.Machine.{Core, with-window, learn, read-left, read-right, executed, execute, forwarded, forward-outcome, forward, none-retired, finish, write-ret, retire-device, retire-store, retire-outcome, retire-oldest, retire}
 use Rattle.window.specs.Clocks.{Move, reads-left, reads-right, move, run-rules}
 use Rattle.window.specs.Fairness.{has, is-answered, store-room, ready}
 use Rattle.window.proofs.Cases.{clash, Some-None}
-use Rattle.window.proofs.Onward.{More, Onward, move-onward, Head-grown, head-grown}
+use Rattle.window.proofs.Onward.{More, Onward, move-onward, head-grown}
 
 -- its operands are in the register file
 pub newest-oldest : (gs : List ℕ) (es : List Entry) (r : ℕ) → newest gs es 0 r ≡ Some (value-in gs r)

@@ -1,14 +1,14 @@
 -- What the rules of a clock leave of the oldest, where none is retired: it only knows more, and what is open for it stays so.
-use mathlib.Core.Path.{_≡_, refl, sym, _∙_, ap, subst}
-use mathlib.Core.Bool.{Bool, true, false}
+use mathlib.Core.Path.{_≡_, refl, sym, _∙_, subst}
+use mathlib.Core.Bool.{true}
 use mathlib.Core.List.{List, [], _∷_, _++_, map}
-use mathlib.Core.Option.{some, none}
-use Prim.Native.Nat.{ℕ, zero, suc, _/_, _<_}
+use mathlib.Core.Option.{some}
+use Prim.Native.Nat.{ℕ, zero, suc, _/_}
 use native.Mathlib.Omega.{arith}
 use lib.ListN.{take}
 use Rattle.std.specs.declared.option.Option.{Option}
 use Rattle.std.specs.declared.option.Option.the-variants.{Some, None}
-use Rattle.isa.specs.Words.{pick, nth, put}
+use Rattle.isa.specs.Words.{nth, put}
 use Rattle.isa.specs.Manual.{Ret, device}
 use Rattle.isa.specs.declared.execute.Outcome.{Outcome}
 use Rattle.isa.specs.declared.execute.Outcome.the-variants.{Write as Writes, Jump as Jumps, Load as Loads, Store as Stores, Halt as Halts}
@@ -18,7 +18,7 @@ use Rattle.window.specs.declared.entry.Source.the-variants.{Unknown, Memory, F
 use Rattle.window.specs.Entries.{with-loaded, with-predicted}
 use Rattle.window.specs.Operands.{left-register, right-register}
 use Rattle.window.specs.Newest.{newest, source}
-use Rattle.window.specs.Machine.{Core, with-window, learn, read-left, read-right, execute, forwarded, forward-outcome, forward, kept, redirect, Retired, retire}
+use Rattle.window.specs.Machine.{Core, learn, read-left, read-right, execute, forwarded, forward-outcome, forward, kept, Retired, retire}
 use Rattle.window.specs.Clocks.{Move, rest, reads-left, reads-right, executes, forwards, redirects, retires, move, run-rules}
 use Rattle.window.specs.Fairness.{has, is-load}
 use Rattle.window.proofs.Cases.{pick-cases, opt-cases, given-cases, some-none, Some-None}

@@ -1,13 +1,13 @@
 -- What an instruction can come to, by its word; and that its outcome at the manual's operands is the manual's.
-use mathlib.Core.Path.{_≡_, refl, sym, ap, _∙_}
-use mathlib.Core.Bool.{Bool, true, false}
+use mathlib.Core.Path.{_≡_, refl, sym, ap}
+use mathlib.Core.Bool.{true, false}
 use Prim.Native.Nat.{ℕ, _/_, _%_, _*_, _<_}
 use native.Mathlib.Omega.{arith}
 use lib.Dec.{eqb}
 use Rattle.std.specs.declared.option.Option.{Option}
 use Rattle.std.specs.declared.option.Option.the-variants.{Some, None}
 use Rattle.isa.specs.Words.{pick, add}
-use Rattle.isa.specs.Manual.{Code, S, Next, step}
+use Rattle.isa.specs.Manual.{Code, S, step}
 use Rattle.isa.specs.Registers.{value-in}
 use Rattle.isa.specs.Decoding.{decodes}
 use Rattle.isa.specs.Executing.{source1, source2, alu-value, mul-value, holds, aligned, outcome, executed, outcome-in, work, how, enact}
@@ -19,7 +19,7 @@ use Rattle.isa.specs.declared.execute.Outcome.the-variants.{Write as Writes, Ju
 use Rattle.isa.specs.declared.execute.Stop.{Stop}
 use Rattle.isa.specs.declared.execute.Stop.the-variants.{EnvCall, Illegal, Misaligned}
 use Rattle.isa.proofs.Does.{step-is}
-use Rattle.window.specs.Operands.{target, is-store, of-instr, left-register, right-register, written-register, may-store, work-with, code-at, left-of, right-of, plan}
+use Rattle.window.specs.Operands.{target, is-store, of-instr, written-register, may-store, work-with, code-at, left-of, right-of, plan}
 use Rattle.window.proofs.Cases.{pick-cases}
 
 pub step-plan : (c : Code) (s : S) → step c s ≡ enact s (plan c s)

@@ -1,8 +1,8 @@
 -- The queues' methods are the machine's rules on their lists.
-use mathlib.Core.Path.{_≡_, refl, sym, _∙_, ap, subst}
+use mathlib.Core.Path.{_≡_, refl, _∙_, ap}
 use mathlib.Core.List.{List, [], _∷_, _++_, map}
 use Prim.Native.Nat.{ℕ, zero, suc, _+_, _-_, _<_, _≤_}
-use native.Mathlib.Numerals.{add-one, sub-one}
+use native.Mathlib.Numerals.{add-one}
 use native.Mathlib.Omega.{arith}
 use lib.ListN.{length, getD, set, take, length-set}
 use lib.Seq.{length-take-le, take-suc-set}
@@ -17,7 +17,7 @@ use Rattle.window.specs.declared.queues.Requests.{Requests}
 use Rattle.window.specs.declared.queues.Fetches.{Fetches}
 use Rattle.window.specs.Machine.{retag, retags, renumber, renumbers}
 use Rattle.window.specs.Rings.{rest}
-use Rattle.window.specs.Queues.{moved-up, changed, requests-start, request-pushed, request-oldest, request-popped, requests-by, fetches-start, fetch-pushed, fetch-oldest, fetch-popped, fetches-by, tags, wants, Sized-requests, Sized-fetches, Queue-laws}
+use Rattle.window.specs.Queues.{moved-up, changed, tags, wants, Sized-requests, Sized-fetches, Queue-laws}
 use Rattle.window.proofs.Circle.{by-test}
 
 -- four places, of which the first n are there

@@ -1,11 +1,11 @@
 -- A core that refines a machine is right where the machine is, and goes on where it does.
-use mathlib.Core.Path.{_≡_, refl, sym, ap, subst}
+use mathlib.Core.Path.{_≡_, sym, ap, subst}
 use mathlib.Core.List.{List, [], _∷_, _++_}
 use Prim.Native.Nat.{ℕ}
 use Rattle.std.specs.declared.option.Option.{Option}
 use Rattle.isa.specs.Manual.{Code, Mem}
-use Rattle.pins.specs.Ports.{In, Out}
-use Rattle.pins.specs.Outside.{Io, Hist, Right-in}
+use Rattle.pins.specs.Ports.{In}
+use Rattle.pins.specs.Outside.{Hist, Right-in}
 use Rattle.pins.specs.Reach.{Mealy, clock-io, Reach, started, clocked, Stands}
 use Rattle.window.specs.Refining.{Same-clock, Refines, read-as, Refine-laws, Refines-with}
 

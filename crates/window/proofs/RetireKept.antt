@@ -4,7 +4,6 @@ use mathlib.Core.Bool.{Bool, true, false}
 use mathlib.Core.List.{List, [], _∷_, _++_, append-nil, append-assoc}
 use mathlib.Core.Option.{Option as Opt, some, none}
 use Prim.Native.Nat.{ℕ, suc, _/_, _<_}
-use native.Mathlib.Omega.{arith}
 use native.Mathlib.Numerals.{add-one}
 use lib.Dec.{eqb, ltb}
 use lib.ListN.{length, length-append}
@@ -12,7 +11,7 @@ use borrow.Author.Tests.{eqb-true}
 use Rattle.std.specs.declared.option.Option.{Option}
 use Rattle.std.specs.declared.option.Option.the-variants.{Some, None}
 use Rattle.isa.specs.Words.{pick, put, nth, add}
-use Rattle.isa.specs.Manual.{Code, Mem, S, Ret, Ev, writes, asks, step, goes, stops, device, asked, wrote, after1}
+use Rattle.isa.specs.Manual.{Code, Mem, S, Ret, Ev, writes, asks, step, goes, stops, device, asked, wrote}
 use Rattle.isa.specs.Runs.{more-answers, next-more}
 use Rattle.isa.specs.Executing.{how, enact}
 use Rattle.isa.specs.declared.reg.Reg.{Reg}
@@ -33,14 +32,14 @@ use Rattle.window.specs.declared.entry.DeviceRead.{DeviceRead}
 use Rattle.window.specs.declared.entry.DeviceRead.the-variants.{Idle, Waiting, Answered}
 use Rattle.window.specs.Entries.{given, number, with-predicted}
 use Rattle.window.specs.Operands.{plan}
-use Rattle.window.specs.Machine.{Core, popped, kept, retag, retags, renumbers, redirect, Retired, leave, finish, write-ret, plain-ret, retire-write, retire-device, retire-store, retire-outcome, retire-oldest, retire, halts-if, halts-outcome, halts-oldest, halted}
+use Rattle.window.specs.Machine.{Core, popped, kept, retags, renumbers, redirect, Retired, leave, finish, write-ret, plain-ret, retire-write, retire-device, retire-store, retire-outcome, retire-oldest, retire, halts-if, halts-outcome, halts-oldest, halted}
 use Rattle.window.proofs.Cases.{opt-cases, given-cases, clash}
 use Rattle.window.proofs.Outcomes.{step-plan, how-low}
-use Rattle.window.proofs.Lines.{known, Loaded, Agrees, Line, predictions, predictions-take, line-nil, line-at}
+use Rattle.window.proofs.Lines.{known, Loaded, line-nil, line-at}
 use Rattle.window.proofs.SourceRight.{with-stores, store-evs}
 use Rattle.window.proofs.Claims.{requests-retag, fetches-renumber, kept-none}
 use Rattle.window.proofs.Held.{Held, held-redirect, held-pop}
-use Rattle.window.proofs.Invariant.{Seen, retired, unread, reading, readings, device-tags, Oldest-reads, base, stand, run-seen, Runs, Inv}
+use Rattle.window.proofs.Invariant.{Seen, retired, unread, reading, readings, device-tags, Oldest-reads, base, stand, run-seen, Inv}
 use Rattle.window.proofs.AskKept.{oldest-agrees}
 
 pub device-tags-retags : (g : ℕ → Option ℕ) (ts : List Tag) → device-tags (retags g ts) ≡ device-tags ts

@@ -1,13 +1,13 @@
 -- The ring's methods are the machine's rules on the list of its entries.
-use mathlib.Core.Path.{_≡_, refl, sym, _∙_, ap, subst}
+use mathlib.Core.Path.{_≡_, refl, sym, _∙_, ap}
 use mathlib.Core.Bool.{Bool, true, false, cond}
 use mathlib.Core.List.{List, [], _∷_, _++_}
-use mathlib.Core.Option.{some, none}
-use Prim.Native.Nat.{ℕ, zero, suc, _+_, _/_, _%_, _<_, _≤_}
+use mathlib.Core.Option.{some}
+use Prim.Native.Nat.{ℕ, zero, suc, _+_, _/_, _<_, _≤_}
 use native.Mathlib.Numerals.{add-one}
 use native.Mathlib.Omega.{arith}
-use lib.Dec.{eqb, ltb}
-use lib.ListN.{length, getD, take, length-set}
+use lib.Dec.{eqb}
+use lib.ListN.{getD, take, length-set}
 use Rattle.std.specs.declared.option.Option.{Option}
 use Rattle.std.specs.declared.option.Option.the-variants.{Some, None}
 use Rattle.isa.specs.Words.{pick, nth, put}
@@ -18,14 +18,13 @@ use Rattle.isa.specs.declared.execute.Outcome.the-variants.{Write as Writes, Ju
 use Rattle.pins.specs.PortWords.{optional}
 use Rattle.window.specs.declared.entry.Entry.{Entry}
 use Rattle.window.specs.declared.entry.Source.{Source}
-use Rattle.window.specs.declared.entry.Source.the-variants.{Unknown, Memory, Forwarded}
+use Rattle.window.specs.declared.entry.Source.the-variants.{Unknown, Forwarded}
 use Rattle.window.specs.declared.ring.Ring.{Ring}
-use Rattle.window.specs.declared.stores.StoreBuffer.{StoreBuffer}
 use Rattle.window.specs.Entries.{given}
 use Rattle.window.specs.Operands.{written-register, may-store}
-use Rattle.window.specs.Newest.{sweep, after-outcome, after-word, over-register, newest, by-store, source-outcome, source-word, over-memory, row-source, source}
-use Rattle.window.specs.Scans.{hits-outcome, hits-word, hits, leaves-outcome, leaves, stored-at, stored, decides-word, decides}
-use Rattle.window.specs.Rings.{size, no-entry, slot, entry, pushed, popped, cut-to, put-at, entry-at, writer-below, operand-by, operand, store-below, buffer-source, source-in, around, items, waiting, rest, Sized, Ring-laws}
+use Rattle.window.specs.Newest.{sweep, after-outcome, after-word, over-register, newest, source-outcome, source-word, over-memory, source}
+use Rattle.window.specs.Scans.{hits-outcome, hits-word, hits, leaves-outcome, leaves, stored, decides-word, decides}
+use Rattle.window.specs.Rings.{size, no-entry, slot, entry, pushed, popped, cut-to, put-at, entry-at, writer-below, operand-by, operand, store-below, buffer-source, items, rest, Sized, Ring-laws}
 use Rattle.window.proofs.Cases.{some-none}
 use Rattle.window.proofs.Circle.{by-test, slot-is, around-length, around-push, around-pop, around-none, around-put, put-beyond, around-take, take-beyond, around-nth, nth-beyond}
 use Rattle.window.proofs.BufferList.{buffer-laws}

@@ -1,15 +1,15 @@
 -- What a rule can come to, each case once: for whatever is to be shown of it.
-use mathlib.Core.Path.{_≡_, refl, sym, _∙_, ap, subst}
+use mathlib.Core.Path.{_≡_, refl}
 use mathlib.Core.Bool.{Bool, true, false}
 use mathlib.Core.List.{List, [], _∷_, _++_}
-use mathlib.Core.Option.{some, none}
-use Prim.Native.Nat.{ℕ, _+_, _/_, _<_, _≤_}
+use mathlib.Core.Option.{some}
+use Prim.Native.Nat.{ℕ, _+_, _/_, _≤_}
 use native.Mathlib.Omega.{arith}
 use lib.Dec.{ltb}
 use lib.ListN.{length, length-append}
 use borrow.Author.Tests.{ltb-true}
 use Rattle.std.specs.declared.option.Option.{Option}
-use Rattle.std.specs.declared.option.Option.the-variants.{Some, None}
+use Rattle.std.specs.declared.option.Option.the-variants.{Some}
 use Rattle.isa.specs.Words.{nth, put, add}
 use Rattle.isa.specs.Manual.{Ret, device}
 use Rattle.isa.specs.declared.execute.Outcome.{Outcome}
@@ -24,7 +24,7 @@ use Rattle.window.specs.declared.entry.Source.{Source}
 use Rattle.window.specs.declared.entry.Source.the-variants.{Unknown, Memory, Forwarded}
 use Rattle.window.specs.Entries.{number}
 use Rattle.window.specs.Newest.{source}
-use Rattle.window.specs.Machine.{Core, with-window, with-requests, learn, Retired, none-retired, finish, write-ret, plain-ret, retire-device, retire-store, retire-outcome, retire-oldest, retire, Asked, nothing-asked, ask-from, ask-outcome, ask-load, drain-first, drain, device-if, device-outcome, device-oldest, ask-device}
+use Rattle.window.specs.Machine.{Core, with-window, with-requests, learn, Retired, none-retired, finish, write-ret, plain-ret, retire-device, retire-store, retire-outcome, retire-oldest, retire, Asked, nothing-asked, ask-from, ask-outcome, drain-first, device-if, device-outcome, device-oldest}
 use Rattle.window.specs.Clocks.{Port, leaves, loads, drains, asks-device, request}
 use Rattle.window.proofs.Cases.{opt-cases, given-cases}
 

@@ -1,14 +1,13 @@
 -- Four open at a time: how long until the port was free m + 1 times, by the ages of what is open. All four are answered within l + 1 clocks together.
-use mathlib.Core.Path.{_≡_, refl, sym, _∙_, ap, subst}
+use mathlib.Core.Path.{_≡_, sym, subst}
 use mathlib.Core.List.{List, [], _∷_, _++_, map}
 use mathlib.Core.Option.{Option as Opt, some, none}
 use Prim.Native.Nat.{ℕ, zero, suc, _+_, _-_, _*_, _<_, _≤_}
 use native.Mathlib.Omega.{arith}
 use lib.ListN.{length}
 use Rattle.isa.specs.Manual.{Mem}
-use Rattle.pins.specs.Ports.{Req}
 use Rattle.pins.specs.Outside.{Io, Hist, O, begin, onward, outside, after}
-use Rattle.pins.specs.View.{pop, push}
+use Rattle.pins.specs.View.{pop}
 use Rattle.pins.specs.Waits.{ages, ages1, aged, age0}
 use Rattle.pins.proofs.Waiting.{wait-laws}
 use Rattle.window.proofs.Marks.{Young}

@@ -1,24 +1,22 @@
 -- What is retired and waits is asked of the outside: how often the port must be free until the first j stores are out.
-use mathlib.Core.Path.{_≡_, refl, sym, _∙_, ap, subst}
+use mathlib.Core.Path.{_≡_, refl, _∙_, ap}
 use mathlib.Core.Bool.{Bool, true, false}
 use mathlib.Core.Logic.{_⊎_, inl, inr}
-use mathlib.Core.Option.{some, none}
 use Prim.Native.Nat.{ℕ, zero, suc, _+_, _*_, _<_, _≤_}
 use native.Mathlib.Nat.{mul-le-mul-right}
 use native.Mathlib.Omega.{arith}
 use lib.ListN.{length}
-use Rattle.pins.specs.Outside.{O, outside, ev-of}
+use Rattle.pins.specs.Outside.{O, ev-of}
 use Rattle.pins.specs.Waits.{ages1}
-use Rattle.pins.specs.Progress.{Point, around, Clock, effects-shown, Owes, Drains}
+use Rattle.pins.specs.Progress.{Point, around, Clock, Owes, Drains}
 use Rattle.pins.proofs.Waiting.{wait-laws}
 use Rattle.pins.specs.View.{view}
-use Rattle.window.specs.Clocks.{Port, drains, room, request-if, Schedule, State, ruled, chosen-port, next, machine}
+use Rattle.window.specs.Clocks.{drains, room, request-if, Schedule, State, chosen-port, next, machine}
 use Rattle.window.specs.Fairness.{Fair-clock, Fair}
-use Rattle.window.proofs.Cases.{clash}
 use Rattle.window.proofs.AlwaysRight.{behind}
-use Rattle.window.proofs.Slots.{Falling, frees, frees-le, frees-48, falling-outside}
+use Rattle.window.proofs.Slots.{frees, frees-le, frees-48, falling-outside}
 use Rattle.window.proofs.AtPort.{drained}
-use Rattle.window.proofs.Clocked.{holds, k0, k2, asked, q0, q1, stores2, stores4, left3, one-use, no-room, older}
+use Rattle.window.proofs.Clocked.{holds, k2, asked, q0, q1, stores2, stores4, one-use, no-room, older}
 
 -- b other uses may come before the first, five before each that follows
 abbrev pub uses : ℕ → ℕ → ℕ

@@ -1,7 +1,7 @@
 -- What the answers of a clock leave of the oldest.
 use mathlib.Core.Path.{_≡_, refl, sym, _∙_, ap, subst}
 use mathlib.Core.Bool.{Bool, true, false}
-use mathlib.Core.List.{List, [], _∷_, _++_, map}
+use mathlib.Core.List.{List, [], _∷_, map}
 use mathlib.Core.Option.{Option as Opt, some, none}
 use Prim.Native.Nat.{ℕ, zero, suc}
 use native.Mathlib.Omega.{arith}
@@ -25,7 +25,7 @@ use Rattle.window.specs.Fairness.{has, is-load, is-answered}
 use Rattle.window.proofs.Cases.{opt-cases, some-none, clash}
 use Rattle.window.proofs.RuleCases.{learn-by}
 use Rattle.window.proofs.Marks.{is-device, is-fetch, Spared}
-use Rattle.window.proofs.Onward.{More, Grows, grows-same, grows-then, put-grows, learn-grows, loaded-more, Head-grown, head-grown}
+use Rattle.window.proofs.Onward.{More, Grows, grows-same, grows-then, learn-grows, loaded-more, head-grown}
 
 abbrev pub head-word : List Entry → Bool
 head-word [] = false

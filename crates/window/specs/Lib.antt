@@ -11,3 +11,4 @@ pub mod Fairness
 pub mod OldestFirst
 pub mod Refining
 pub mod Queues
+pub mod Eight

@@ -1,5 +1,4 @@
 -- What an instruction in the window finds before it: a register's newest value, and the newest store to a word.
-use mathlib.Core.Bool.{Bool, true, false}
 use mathlib.Core.List.{List, [], _∷_}
 use Prim.Native.Nat.{ℕ, _/_}
 use lib.Dec.{eqb}

@@ -1,8 +1,8 @@
 -- The queues of open requests and of wanted words of code: what the code's methods do, and what that is to their lists.
 use mathlib.Core.Path.{_≡_}
-use mathlib.Core.Bool.{Bool, true, false, cond}
+use mathlib.Core.Bool.{cond}
 use mathlib.Core.List.{List, [], _∷_, _++_}
-use Prim.Native.Nat.{ℕ, zero, suc, _+_, _-_, _<_, _≤_}
+use Prim.Native.Nat.{ℕ, _+_, _-_, _<_, _≤_}
 use lib.Dec.{ltb}
 use lib.ListN.{length, getD, set, take, replicate}
 use Rattle.std.specs.declared.option.Option.{Option}
@@ -11,7 +11,7 @@ use Rattle.isa.specs.Words.{nth}
 use Rattle.pins.specs.PortWords.{optional}
 use Rattle.window.specs.declared.entry.Number.{Number}
 use Rattle.window.specs.declared.entry.Tag.{Tag}
-use Rattle.window.specs.declared.entry.Tag.the-variants.{Acknowledgment, Load, Stale, Device}
+use Rattle.window.specs.declared.entry.Tag.the-variants.{Acknowledgment}
 use Rattle.window.specs.declared.queues.Requests.{Requests}
 use Rattle.window.specs.declared.queues.Fetches.{Fetches}
 use Rattle.window.specs.Machine.{retag, retags, renumber, renumbers}

@@ -1,6 +1,6 @@
 -- The window and the store buffer as rings: what the code's methods do.
 use mathlib.Core.Path.{_≡_}
-use mathlib.Core.Bool.{Bool, true, false, cond, _&&_}
+use mathlib.Core.Bool.{Bool, cond, _&&_}
 use mathlib.Core.List.{List, [], _∷_, _++_}
 use Prim.Native.Nat.{ℕ, zero, suc, _+_, _-_, _/_, _%_, _<_, _≤_}
 use lib.Dec.{eqb, ltb}
@@ -14,7 +14,7 @@ use Rattle.pins.specs.PortWords.{optional}
 use Rattle.window.specs.declared.entry.Entry.{Entry}
 use Rattle.window.specs.declared.entry.Store.{Store}
 use Rattle.window.specs.declared.entry.Source.{Source}
-use Rattle.window.specs.declared.entry.Source.the-variants.{Unknown, Memory, Forwarded}
+use Rattle.window.specs.declared.entry.Source.the-variants.{Memory, Forwarded}
 use Rattle.window.specs.declared.ring.Ring.{Ring}
 use Rattle.window.specs.declared.stores.StoreBuffer.{StoreBuffer}
 use Rattle.window.specs.Entries.{given, fresh, with-word, with-left, with-right, with-outcome, with-loaded}

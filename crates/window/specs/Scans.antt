@@ -1,5 +1,5 @@
 -- What one instruction leaves for those behind it: as the searches from the newest on ask for it.
-use mathlib.Core.Bool.{Bool, true, false, cond}
+use mathlib.Core.Bool.{Bool, true, false}
 use Prim.Native.Nat.{ℕ, _/_}
 use lib.Dec.{eqb}
 use Rattle.std.specs.declared.option.Option.{Option}
@@ -10,7 +10,7 @@ use Rattle.isa.specs.declared.execute.Outcome.{Outcome}
 use Rattle.isa.specs.declared.execute.Outcome.the-variants.{Write as Writes, Jump as Jumps, Load as Loads, Store as Stores, Halt as Halts}
 use Rattle.window.specs.declared.entry.Entry.{Entry}
 use Rattle.window.specs.declared.entry.Source.{Source}
-use Rattle.window.specs.declared.entry.Source.the-variants.{Unknown, Memory, Forwarded}
+use Rattle.window.specs.declared.entry.Source.the-variants.{Unknown, Forwarded}
 use Rattle.window.specs.Entries.{given}
 use Rattle.window.specs.Operands.{written-register, may-store}
 

@@ -1,5 +1,6 @@
 // The laws of every core with a window: each function's contract is the theorem.
 ghost use Rattle.window.specs.Right.{Window-right};
+ghost use Rattle.window.specs.Eight.{Eight-runs};
 ghost use Rattle.window.specs.Fairness.{Window-goes-on};
 ghost use Rattle.window.specs.OldestFirst.{Oldest-first-fair};
 ghost use Rattle.window.specs.Queues.{Queue-laws};
@@ -23,6 +24,13 @@ pub fn goes_on<T>() -> bool
 // A schedule that puts the oldest first is fair, whatever it does else with tables U.
 pub fn oldest_first_is_fair<U>() -> bool
     ensures { λ _. ⌜ Oldest-first-fair U ⌝ }
+{
+    true
+}
+
+// One of them, with a window of eight, run by computing.
+pub fn eight_runs() -> bool
+    ensures { λ _. ⌜ Eight-runs ⌝ }
 {
     true
 }

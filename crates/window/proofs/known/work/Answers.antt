@@ -1,4 +1,3 @@
-use mathlib.Core.Path.{_≡_, sym, ap, _∙_}
 use borrow.Author.Needs.{needs}
 use Rattle.window.specs.Operands.{work-with}
 use Rattle.window.proofs.known.work.Needs as need

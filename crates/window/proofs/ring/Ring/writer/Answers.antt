@@ -1,4 +1,4 @@
-use mathlib.Core.Path.{_≡_, sym, _∙_}
+use mathlib.Core.Path.{sym, _∙_}
 use native.Mathlib.Omega.{arith}
 use Rattle.window.proofs.Searches.{writer-on, writer-here}
 use Rattle.window.proofs.ring.Ring.writer.Needs as need
