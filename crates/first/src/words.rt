@@ -201,6 +201,16 @@ impl StoreBuffer {
     }
 }
 
+// By a copy of their own, which the compiler moves in few large pieces.
+fn register_words(regs: &Regs) -> [u32; 32]
+    ensures is { λ r. ⌜ r ≡ now (regs .entry) .values ⌝ }
+    ensures shaped { λ _. ⌜ length (now (regs .entry) .values) ≡ 32 ⌝ }
+{
+    let mut values = [0u32; 32];
+    values.copy_from_slice(&regs.values);
+    values
+}
+
 impl Core {
     fn read(w: &[u32]) -> Core
         requires { ⌜ 65536 ≤ length (now w) ⌝ }
@@ -248,6 +258,6 @@ impl Core {
         w[10..13].copy_from_slice(&self.lsu.load.words());
         w[13..18].copy_from_slice(&self.lsu.requests.words());
         w[18..36].copy_from_slice(&self.lsu.stores.words());
-        w[36..68].copy_from_slice(&self.regs.values);
+        w[36..68].copy_from_slice(&register_words(&self.regs));
     }
 }

@@ -27,10 +27,13 @@ fn timed(rt: &LibcRuntime, rig: &mut Rig, count: u64) -> Result<(), AnyError> {
     rig.clocks(count);
     let clocks = start.elapsed(rt)?.as_nanos();
     let start = Instant::now(rt)?;
-    rig.copies(count);
-    let copies = start.elapsed(rt)?.as_nanos();
+    let stepped = rig.steps(count);
+    let steps = start.elapsed(rt)?.as_nanos();
+    if !stepped {
+        return Err("the core refuses its own words".into());
+    }
     let all = nanoseconds_each(clocks, count);
-    let words = nanoseconds_each(copies, count);
+    let words = all.saturating_sub(nanoseconds_each(steps, count));
     let (whole, tenth) = (all / 10, all % 10);
     println!(rt, "{whole}.{tenth} ns a clock")?;
     let (whole, tenth) = (words / 10, words % 10);

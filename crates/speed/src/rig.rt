@@ -1,5 +1,6 @@
 // A core in a loop of four instructions, with all code answered at once.
 use first::state::Core;
+use pins::ports::Inputs;
 use std::alloc::AllocError;
 use std::alloc::Global;
 
@@ -29,6 +30,10 @@ impl Rig {
     // One clock; what it wants of code is answered in the next.
     fn clock(&mut self) {
         let _ = ahead::clock(&mut self.core, &self.ins, &mut self.outs);
+        self.answer();
+    }
+
+    fn answer(&mut self) {
         let wants = self.outs[0];
         let address = self.outs[1];
         self.ins = [wants, LOOP[(address / 4 % 4) as usize], 0, 0];
@@ -41,19 +46,25 @@ impl Rig {
         }
     }
 
-    // Only reads the core from its words and writes it back.
-    fn copy(&mut self) {
-        let Some(core) = Core::load(&self.core) else {
-            return;
+    // The same on a core by value, which stays out of its words meanwhile. False where they are no core.
+    pub fn steps(&mut self, count: u64) -> bool {
+        let Some(mut core) = Core::load(&self.core) else {
+            return false;
         };
+        for _ in 0..count {
+            self.step(&mut core);
+        }
         if self.core.len() >= 65536 {
             core.save(&mut self.core);
         }
+        true
     }
 
-    pub fn copies(&mut self, count: u64) {
-        for _ in 0..count {
-            self.copy();
-        }
+    fn step(&mut self, core: &mut Core) {
+        let Some(inputs) = Inputs::read(&self.ins) else {
+            return;
+        };
+        core.clock(inputs).write(&mut self.outs);
+        self.answer();
     }
 }
