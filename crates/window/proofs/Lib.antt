@@ -34,3 +34,4 @@ pub mod OldestFirst
 pub mod Refined
 pub mod QueueList
 pub mod EightRuns
+pub mod DatapathList

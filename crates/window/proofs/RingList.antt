@@ -2,15 +2,15 @@
 use mathlib.Core.Path.{_≡_, refl, sym, _∙_, ap}
 use mathlib.Core.Bool.{Bool, true, false, cond}
 use mathlib.Core.List.{List, [], _∷_, _++_}
-use mathlib.Core.Option.{some}
-use Prim.Native.Nat.{ℕ, zero, suc, _+_, _/_, _<_, _≤_}
-use native.Mathlib.Numerals.{add-one}
+use mathlib.Core.Option.{Option as Opt, some, none}
+use Prim.Native.Nat.{ℕ, zero, suc, _+_, _-_, _/_, _<_, _≤_}
+use native.Mathlib.Numerals.{add-one, sub-one}
 use native.Mathlib.Omega.{arith}
 use lib.Dec.{eqb}
-use lib.ListN.{getD, take, length-set}
+use lib.ListN.{length, getD, take, length-set}
 use Rattle.std.specs.declared.option.Option.{Option}
 use Rattle.std.specs.declared.option.Option.the-variants.{Some, None}
-use Rattle.isa.specs.Words.{pick, nth, put}
+use Rattle.isa.specs.Words.{pick, opt, nth, put}
 use Rattle.isa.specs.Manual.{device}
 use Rattle.isa.specs.Registers.{value-in}
 use Rattle.isa.specs.declared.execute.Outcome.{Outcome}
@@ -23,8 +23,9 @@ use Rattle.window.specs.declared.ring.Ring.{Ring}
 use Rattle.window.specs.Entries.{given}
 use Rattle.window.specs.Operands.{written-register, may-store}
 use Rattle.window.specs.Newest.{sweep, after-outcome, after-word, over-register, newest, source-outcome, source-word, over-memory, source}
+use Rattle.window.specs.Machine.{Core, with-window, learn, tip}
 use Rattle.window.specs.Scans.{hits-outcome, hits-word, hits, leaves-outcome, leaves, stored, decides-word, decides}
-use Rattle.window.specs.Rings.{size, no-entry, slot, entry, pushed, popped, cut-to, put-at, entry-at, writer-below, operand-by, operand, store-below, buffer-source, items, rest, Sized, Ring-laws}
+use Rattle.window.specs.Rings.{around, size, no-entry, slot, entry, pushed, popped, cut-to, put-at, entry-at, writer-below, operand-by, operand, store-below, buffer-source, items, rest, Sized, Ring-laws}
 use Rattle.window.proofs.Cases.{some-none}
 use Rattle.window.proofs.Circle.{by-test, slot-is, around-length, around-push, around-pop, around-none, around-put, put-beyond, around-take, take-beyond, around-nth, nth-beyond}
 use Rattle.window.proofs.BufferList.{buffer-laws}
@@ -158,6 +159,74 @@ source-swept w q i (suc n) l =
     by None = refl
     by (Some s) = refl
 
+items-oldest : (w : Ring) → 0 < w .count → items w ≡ entry w 0 ∷ items (popped w)
+items-oldest w l = by (items w) refl
+  where
+    by : (es : List Entry) → items w ≡ es → items w ≡ entry w 0 ∷ items (popped w)
+    by [] e = some-none (items-nth w 0 l) (ap (λ (z : List Entry). nth z 0) e)
+    by (x ∷ es) e =
+        let h : some x ≡ some (entry w 0) = sym (ap (λ (z : List Entry). nth z 0) e) ∙ items-nth w 0 l in
+        let same : x ≡ entry w 0 = cc in
+        let tail : es ≡ items (popped w) = sym (items-pop w ∙ ap rest e) in
+        e ∙ (λ i. same i ∷ tail i)
+
+items-empty : (w : Ring) → w .count ≡ 0 → items w ≡ []
+unfolding items
+items-empty w e = ap (λ n. around size no-entry (w .at) (w .begin) n) e
+
+-- the first n of a list, and its n-th changed
+take-put : (es : List Entry) (n : ℕ) (d : Entry) → n < length es → take (suc n) (put es n d) ≡ take n es ++ (d ∷ [])
+take-put [] n d h = absurd (omega arith)
+take-put (x ∷ es) zero d h = refl
+take-put (x ∷ es) (suc n) d h = ap (λ z. x ∷ z) (take-put es n d (omega arith))
+
+items-length : (w : Ring) → length (items w) ≡ w .count
+unfolding items
+items-length w = around-length size positive no-entry (w .at) (w .begin) (w .count)
+
+items-redirect : (w : Ring) (n : ℕ) (d : Entry) → Sized w → n < w .count → items (cut-to (put-at w n d) (suc n)) ≡ take n (items w) ++ (d ∷ [])
+items-redirect w n d s l =
+    let e = items-length w in
+    items-cut (put-at w n d) (suc n) ∙ ap (take (suc n)) (items-put w n d s) ∙ take-put (items w) n d (omega arith)
+
+-- the last one's prediction
+tip-last : (es : List Entry) (p : ℕ) → given (optional (nth es (length es - 1))) p (λ e. e .predicted) ≡ tip p es
+tip-last [] p = refl
+tip-last (x ∷ []) p = refl
+tip-last (x ∷ y ∷ es) p = rw (sub-one (length (x ∷ y ∷ es))) (by (sub-one (length (y ∷ es))) (tip-last (y ∷ es) (x .predicted)))
+  where
+    by : length (y ∷ es) - 1 ≡ length es → given (optional (nth (y ∷ es) (length (y ∷ es) - 1))) (x .predicted) (λ e. e .predicted) ≡ tip (x .predicted) (y ∷ es)
+        → given (optional (nth (y ∷ es) (length es))) p (λ e. e .predicted) ≡ tip (x .predicted) (y ∷ es)
+    by e h = some-there (y ∷ es) (length es) (omega arith) ∙ ap (λ n. given (optional (nth (y ∷ es) n)) (x .predicted) (λ e. e .predicted)) (sym e) ∙ h
+      where
+        some-there : (xs : List Entry) (n : ℕ) → n < length xs → given (optional (nth xs n)) p (λ e. e .predicted) ≡ given (optional (nth xs n)) (x .predicted) (λ e. e .predicted)
+        some-there [] n h = absurd (omega arith)
+        some-there (z ∷ xs) zero h = refl
+        some-there (z ∷ xs) (suc n) h = some-there xs n (omega arith)
+
+items-next : (w : Ring) (p : ℕ) → given (entry-at w (w .count - 1)) p (λ e. e .predicted) ≡ tip p (items w)
+items-next w p =
+    ap (λ o. given o p (λ e. e .predicted)) (items-get w (w .count - 1) ∙ ap (λ n. optional (nth (items w) (n - 1))) (sym (items-length w))) ∙ tip-last (items w) p
+
+items-learn : (f : Core → ℕ → Entry → Option Entry) (n : ℕ) (k : Core) (w : Ring) → Sized w → k .window ≡ items w
+    → learn f n k ≡ with-window k (items (given (entry-at w n) w (λ e. given (f k n e) w (put-at w n))))
+items-learn f n k w s e =
+    ap (λ o. opt o k (λ x. given (f k n x) k (λ y. with-window k (put (k .window) n y)))) (ap (λ (z : List Entry). nth z n) e)
+    ∙ by (nth (items w) n)
+    ∙ sym (ap (λ (o : Option Entry). with-window k (items (given o w (λ x. given (f k n x) w (put-at w n))))) (items-get w n))
+  where
+    same : k ≡ with-window k (items w)
+    same = ap (with-window k) e
+
+    put-is : (o : Option Entry) → given o k (λ y. with-window k (put (k .window) n y)) ≡ with-window k (items (given o w (put-at w n)))
+    put-is None = same
+    put-is (Some y) = ap (with-window k) (ap (λ (z : List Entry). put z n y) e ∙ sym (items-put w n y s))
+
+    by : (o : Opt Entry) → opt o k (λ x. given (f k n x) k (λ y. with-window k (put (k .window) n y)))
+        ≡ with-window k (items (given (optional o) w (λ x. given (f k n x) w (put-at w n))))
+    by none = same
+    by (some x) = put-is (f k n x)
+
 pub ring-laws : Ring-laws
 unfolding items
 ring-laws = record {
@@ -168,6 +237,11 @@ ring-laws = record {
   cut = items-cut;
   put = items-put;
   get = items-get;
+  oldest = items-oldest;
+  empty = items-empty;
+  redirect = items-redirect;
+  next = items-next;
+  learn = items-learn;
   operand = operand-is;
   source = λ w b i n l. source-swept w (buffer-source b i) i n l ∙ ap (λ q. sweep (over-memory i) q (take n (items w))) (buffer-laws .source b i);
   start-sized = record { slots = refl; count = omega arith };

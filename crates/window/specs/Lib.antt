@@ -12,3 +12,4 @@ pub mod OldestFirst
 pub mod Refining
 pub mod Queues
 pub mod Eight
+pub mod Datapaths

@@ -20,6 +20,7 @@ use Rattle.window.specs.declared.stores.StoreBuffer.{StoreBuffer}
 use Rattle.window.specs.Entries.{given, fresh, with-word, with-left, with-right, with-outcome, with-loaded}
 use Rattle.window.specs.Newest.{newest, row-source, source}
 use Rattle.window.specs.Scans.{hits, leaves, decides}
+use Rattle.window.specs.Machine.{Core, with-window, learn, tip}
 
 -- how many instructions can be at work
 abbrev pub size : ℕ
@@ -156,6 +157,16 @@ pub record Ring-laws : Type 0 where
   pub cut : (w : Ring) (n : ℕ) → items (cut-to w n) ≡ take n (items w)
   pub put : (w : Ring) (n : ℕ) (e : Entry) → Sized w → items (put-at w n e) ≡ put (items w) n e
   pub get : (w : Ring) (n : ℕ) → entry-at w n ≡ optional (nth (items w) n)
+  -- the oldest, and the others; no instruction
+  pub oldest : (w : Ring) → 0 < w .count → items w ≡ entry w 0 ∷ items (popped w)
+  pub empty : (w : Ring) → w .count ≡ 0 → items w ≡ []
+  -- the n-th changed, and what is younger flushed
+  pub redirect : (w : Ring) (n : ℕ) (d : Entry) → Sized w → n < w .count → items (cut-to (put-at w n d) (suc n)) ≡ take n (items w) ++ (d ∷ [])
+  -- where the next is
+  pub next : (w : Ring) (p : ℕ) → given (entry-at w (w .count - 1)) p (λ e. e .predicted) ≡ tip p (items w)
+  -- all rules by which the n-th learns: look it up, put what it learns
+  pub learn : (f : Core → ℕ → Entry → Option Entry) (n : ℕ) (k : Core) (w : Ring) → Sized w → k .window ≡ items w
+      → learn f n k ≡ with-window k (items (given (entry-at w n) w (λ e. given (f k n e) w (put-at w n))))
   -- the operand and the source that are found are the machine's
   pub operand : (w : Ring) (gs : List ℕ) (r n : ℕ) → n ≤ w .count → operand w gs r n ≡ newest gs (items w) n r
   pub source : (w : Ring) (b : StoreBuffer) (i n : ℕ) → n ≤ w .count → source-in w b i n ≡ source (waiting b) (items w) n i

@@ -1,5 +1,6 @@
 // The laws of every core with a window: each function's contract is the theorem.
 ghost use Rattle.window.specs.Right.{Window-right};
+ghost use Rattle.window.specs.Datapaths.{Datapath-laws};
 ghost use Rattle.window.specs.Eight.{Eight-runs};
 ghost use Rattle.window.specs.Fairness.{Window-goes-on};
 ghost use Rattle.window.specs.OldestFirst.{Oldest-first-fair};
@@ -59,6 +60,13 @@ pub fn buffer_is_list() -> bool
 // And so the queues of open requests and of wanted words of code.
 pub fn queues_are_lists() -> bool
     ensures { λ _. ⌜ Queue-laws ⌝ }
+{
+    true
+}
+
+// The datapath's rules are the machine's on the lists that it stands for.
+pub fn datapath_is_machine() -> bool
+    ensures { λ _. ⌜ Datapath-laws ⌝ }
 {
     true
 }
