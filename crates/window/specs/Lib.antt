@@ -13,3 +13,4 @@ pub mod Refining
 pub mod Queues
 pub mod Eight
 pub mod Datapaths
+pub mod Retiring

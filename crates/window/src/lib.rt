@@ -4,5 +4,6 @@ pub mod entry;
 pub mod known;
 pub mod laws;
 pub mod queues;
+mod retire;
 pub mod ring;
 pub mod stores;
