@@ -11,7 +11,6 @@ use isa::reg::Reg;
 use pins::ports::Request;
 use pins::ports::Retired;
 
-
 impl Datapath {
     // It goes on at `next`: after a right prediction the younger ones stay, after a wrong one they are flushed.
     fn move_on(&mut self, predicted: u32, next: u32)
@@ -84,7 +83,12 @@ impl Datapath {
         ensures shows { λ r. ⌜ r ≡ device-done (now (self .entry)) (rd .number) (now (self .entry) .device) ⌝ }
     {
         match self.device {
-            DeviceRead::Answered { value, .. } => Some(self.retire_write(e, rd, value, self.pc.wrapping_add(4))),
+            DeviceRead::Answered { value, .. } => Some(self.retire_write(
+                e,
+                rd,
+                value,
+                self.pc.wrapping_add(4),
+            )),
             _ => None,
         }
     }
