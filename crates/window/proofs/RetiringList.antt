@@ -26,7 +26,7 @@ use Rattle.window.specs.Rings.{entry, entry-at, buffer-entry, buffer-pushed, b
 use Rattle.window.specs.Rings as rings
 use Rattle.window.specs.Queues.{requests-by, fetches-by, wants}
 use Rattle.window.specs.Datapaths.{lists, Sized-datapath}
-use Rattle.window.specs.Retiring.{moved-on, plain-done, with-register, written, device-retired, device-done, load-retired, load-done, with-buffer, store-retired, store-done, outcome-retired, outcome-done, retired, done, drained, drain-request, rets-of, Retiring-laws}
+use Rattle.window.specs.Retiring.{stayed, emptied, moved-on, plain-done, with-register, written, device-retired, device-done, load-retired, load-done, with-buffer, store-retired, store-done, outcome-retired, outcome-done, retired, done, drained, drain-request, rets-of, Retiring-laws}
 use Rattle.window.proofs.Cases.{given-cases}
 use Rattle.window.proofs.Circle.{by-test}
 use Rattle.window.proofs.RingList.{ring-laws}
@@ -36,44 +36,44 @@ use Rattle.window.proofs.QueueList.{queue-laws}
 -- it goes on
 moved-is : (k : Datapath) (g b : ℕ) → Sized-datapath k
     → lists (moved-on k g b) ≡ leave (lists k) (rest (items (k .window))) (k .regs .values) b (waiting (k .stores)) (eqb b g)
-moved-is k g b s = by (eqb b g) refl
+moved-is k g b s = by (eqb b g)
   where
-    by : (t : Bool) → eqb b g ≡ t → lists (moved-on k g b) ≡ leave (lists k) (rest (items (k .window))) (k .regs .values) b (waiting (k .stores)) t
-    by true e =
-        ap (λ t. lists (cond t
-        (record { regs = k .regs; pc = b; stores = k .stores; device = Idle; window = rings.popped (k .window); requests = requests-by popped (k .requests); fetches = fetches-by popped (k .fetches) })
-        (record { regs = k .regs; pc = b; stores = k .stores; device = Idle; window = rings.cut-to (k .window) 0; requests = requests-by (kept 0) (k .requests); fetches = fetches-by (kept 0) (k .fetches) }))) e
-        ∙ (λ i. record {
-          regs = k .regs .values;
-          pc = b;
-          stores = waiting (k .stores);
-          device = Idle;
-          window = ring-laws .pop (k .window) i;
-          requests = queue-laws .tags-by popped (k .requests) (s .requests) i;
-          fetches = queue-laws .wants-by popped (k .fetches) (s .fetches) i;
-        })
-    by false e =
-        ap (λ t. lists (cond t
-        (record { regs = k .regs; pc = b; stores = k .stores; device = Idle; window = rings.popped (k .window); requests = requests-by popped (k .requests); fetches = fetches-by popped (k .fetches) })
-        (record { regs = k .regs; pc = b; stores = k .stores; device = Idle; window = rings.cut-to (k .window) 0; requests = requests-by (kept 0) (k .requests); fetches = fetches-by (kept 0) (k .fetches) }))) e
-        ∙ (λ i. record {
-          regs = k .regs .values;
-          pc = b;
-          stores = waiting (k .stores);
-          device = Idle;
-          window = ring-laws .cut (k .window) 0 i;
-          requests = queue-laws .tags-by (kept 0) (k .requests) (s .requests) i;
-          fetches = queue-laws .wants-by (kept 0) (k .fetches) (s .fetches) i;
-        })
+    by : (t : Bool) → lists (cond t (stayed k b) (emptied k b)) ≡ leave (lists k) (rest (items (k .window))) (k .regs .values) b (waiting (k .stores)) t
+    by true = λ i. record {
+      regs = k .regs .values;
+      pc = b;
+      stores = waiting (k .stores);
+      device = Idle;
+      window = ring-laws .pop (k .window) i;
+      requests = queue-laws .tags-by popped (k .requests) (s .requests) i;
+      fetches = queue-laws .wants-by popped (k .fetches) (s .fetches) i;
+    }
+    by false = λ i. record {
+      regs = k .regs .values;
+      pc = b;
+      stores = waiting (k .stores);
+      device = Idle;
+      window = ring-laws .cut (k .window) 0 i;
+      requests = queue-laws .tags-by (kept 0) (k .requests) (s .requests) i;
+      fetches = queue-laws .wants-by (kept 0) (k .fetches) (s .fetches) i;
+    }
 
 moved-sized : (k : Datapath) (g b : ℕ) → Sized-datapath k → Sized-datapath (moved-on k g b)
 moved-sized k g b s = by (eqb b g)
   where
-    by : (t : Bool) → Sized-datapath (cond t
-        (record { regs = k .regs; pc = b; stores = k .stores; device = Idle; window = rings.popped (k .window); requests = requests-by popped (k .requests); fetches = fetches-by popped (k .fetches) })
-        (record { regs = k .regs; pc = b; stores = k .stores; device = Idle; window = rings.cut-to (k .window) 0; requests = requests-by (kept 0) (k .requests); fetches = fetches-by (kept 0) (k .fetches) }))
-    by true = record { window = ring-laws .pop-sized (k .window) (s .window); stores = s .stores; requests = queue-laws .tags-by-sized popped (k .requests) (s .requests); fetches = queue-laws .wants-by-sized popped (k .fetches) (s .fetches) }
-    by false = record { window = ring-laws .cut-sized (k .window) 0 (s .window); stores = s .stores; requests = queue-laws .tags-by-sized (kept 0) (k .requests) (s .requests); fetches = queue-laws .wants-by-sized (kept 0) (k .fetches) (s .fetches) }
+    by : (t : Bool) → Sized-datapath (cond t (stayed k b) (emptied k b))
+    by true = record {
+      window = ring-laws .pop-sized (k .window) (s .window);
+      stores = s .stores;
+      requests = queue-laws .tags-by-sized popped (k .requests) (s .requests);
+      fetches = queue-laws .wants-by-sized popped (k .fetches) (s .fetches);
+    }
+    by false = record {
+      window = ring-laws .cut-sized (k .window) 0 (s .window);
+      stores = s .stores;
+      requests = queue-laws .tags-by-sized (kept 0) (k .requests) (s .requests);
+      fetches = queue-laws .wants-by-sized (kept 0) (k .fetches) (s .fetches);
+    }
 
 -- what a rule leaves and shows is the machine's
 pub record Does (k j : Datapath) (ts : List Ret) (d : Retired) : Type 0 where

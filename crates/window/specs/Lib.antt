@@ -14,3 +14,4 @@ pub mod Queues
 pub mod Eight
 pub mod Datapaths
 pub mod Retiring
+pub mod Asking

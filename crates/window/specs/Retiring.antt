@@ -29,10 +29,30 @@ use Rattle.window.specs.Queues.{request-pushed, requests-by, fetches-by}
 use Rattle.window.specs.Datapaths.{lists, Sized-datapath}
 
 -- it goes on at b, where g was predicted
+abbrev pub stayed : Datapath → ℕ → Datapath
+stayed k b = record {
+  regs = k .regs;
+  pc = b;
+  stores = k .stores;
+  device = Idle;
+  window = rings.popped (k .window);
+  requests = requests-by popped (k .requests);
+  fetches = fetches-by popped (k .fetches);
+}
+
+abbrev pub emptied : Datapath → ℕ → Datapath
+emptied k b = record {
+  regs = k .regs;
+  pc = b;
+  stores = k .stores;
+  device = Idle;
+  window = cut-to (k .window) 0;
+  requests = requests-by (kept 0) (k .requests);
+  fetches = fetches-by (kept 0) (k .fetches);
+}
+
 abbrev pub moved-on : Datapath → ℕ → ℕ → Datapath
-moved-on k g b = cond (eqb b g)
-    (record { regs = k .regs; pc = b; stores = k .stores; device = Idle; window = rings.popped (k .window); requests = requests-by popped (k .requests); fetches = fetches-by popped (k .fetches) })
-    (record { regs = k .regs; pc = b; stores = k .stores; device = Idle; window = cut-to (k .window) 0; requests = requests-by (kept 0) (k .requests); fetches = fetches-by (kept 0) (k .fetches) })
+moved-on k g b = cond (eqb b g) (stayed k b) (emptied k b)
 
 -- what is shown
 abbrev pub write-done : Datapath → ℕ → ℕ → Retired
