@@ -36,3 +36,4 @@ pub mod QueueList
 pub mod EightRuns
 pub mod DatapathList
 pub mod RetiringList
+pub mod AskingList

@@ -1,8 +1,8 @@
 -- Retiring and draining on the datapath are the machine's rules on its lists.
 use mathlib.Core.Path.{_≡_, refl, sym, _∙_, ap, subst}
 use mathlib.Core.Bool.{Bool, true, false, cond}
-use mathlib.Core.List.{List, [], _∷_, _++_}
-use Prim.Native.Nat.{ℕ, zero, suc, _+_, _<_, _≤_}
+use mathlib.Core.List.{List, [], _∷_}
+use Prim.Native.Nat.{ℕ, _<_}
 use native.Mathlib.Omega.{arith}
 use lib.Dec.{eqb, ltb}
 use lib.ListN.{length}
@@ -21,13 +21,12 @@ use Rattle.window.specs.declared.entry.DeviceRead.{DeviceRead}
 use Rattle.window.specs.declared.entry.DeviceRead.the-variants.{Idle, Waiting, Answered}
 use Rattle.window.specs.declared.datapath.Datapath.{Datapath}
 use Rattle.window.specs.Entries.{given}
-use Rattle.window.specs.Machine.{Core, popped, kept, Retired, none-retired, leave, retire-write, retire-device, retire-store, retire-outcome, retire-oldest, retire, Asked, drain-first, drain}
-use Rattle.window.specs.Rings.{entry, entry-at, buffer-entry, buffer-pushed, buffer-popped, items, waiting, rest, Sized-buffer}
+use Rattle.window.specs.Machine.{popped, kept, Retired, none-retired, leave, retire-write, retire-device, retire-store, retire-outcome, retire-oldest, retire, drain-first, drain}
+use Rattle.window.specs.Rings.{entry, buffer-pushed, buffer-popped, items, waiting, rest}
 use Rattle.window.specs.Rings as rings
-use Rattle.window.specs.Queues.{requests-by, fetches-by, wants}
+use Rattle.window.specs.Queues.{wants}
 use Rattle.window.specs.Datapaths.{lists, Sized-datapath}
 use Rattle.window.specs.Retiring.{stayed, emptied, moved-on, plain-done, with-register, written, device-retired, device-done, load-retired, load-done, with-buffer, store-retired, store-done, outcome-retired, outcome-done, retired, done, drained, drain-request, rets-of, Retiring-laws}
-use Rattle.window.proofs.Cases.{given-cases}
 use Rattle.window.proofs.Circle.{by-test}
 use Rattle.window.proofs.RingList.{ring-laws}
 use Rattle.window.proofs.BufferList.{buffer-laws}

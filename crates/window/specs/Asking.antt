@@ -1,6 +1,6 @@
 -- Requests for loads and devices, and stopping, as the datapath does them.
 use mathlib.Core.Path.{_≡_}
-use mathlib.Core.Bool.{Bool, true, false, _&&_}
+use mathlib.Core.Bool.{Bool, false, _&&_}
 use Prim.Native.Nat.{ℕ, _/_, _<_}
 use lib.Dec.{eqb}
 use Rattle.std.specs.declared.option.Option.{Option}
@@ -92,9 +92,9 @@ halts k = given (entry-at (k .window) 0) None (λ e. given (e .outcome) None (ha
 
 pub record Asking-laws : Type 0 where
   pub load : (k : Datapath) (n : ℕ) → Sized-datapath k → k .requests .count < 4 → lists (load-asked k n) ≡ ask-load n (lists k) .core
-  pub load-asks : (k : Datapath) (n : ℕ) → request-of (read-of (load-address k n)) ≡ ask-load n (lists k) .req
+  pub load-asks : (k : Datapath) (n : ℕ) → Sized-datapath k → k .requests .count < 4 → request-of (read-of (load-address k n)) ≡ ask-load n (lists k) .req
   pub reading : (k : Datapath) → Sized-datapath k → k .requests .count < 4 → lists (device-asked k) ≡ ask-device (lists k) .core
-  pub reading-asks : (k : Datapath) → request-of (read-of (device-address k)) ≡ ask-device (lists k) .req
+  pub reading-asks : (k : Datapath) → Sized-datapath k → k .requests .count < 4 → request-of (read-of (device-address k)) ≡ ask-device (lists k) .req
   pub stops : (k : Datapath) → plain (stop-word (halts k)) ≡ halted (lists k)
   pub load-sized : (k : Datapath) (n : ℕ) → Sized-datapath k → Sized-datapath (load-asked k n)
   pub reading-sized : (k : Datapath) → Sized-datapath k → Sized-datapath (device-asked k)

@@ -1,6 +1,6 @@
 -- Retiring and requests, as the datapath does them.
 use mathlib.Core.Path.{_≡_}
-use mathlib.Core.Bool.{Bool, true, false, cond}
+use mathlib.Core.Bool.{cond}
 use mathlib.Core.List.{List, [], _∷_}
 use Prim.Native.Nat.{ℕ, _<_}
 use lib.Dec.{eqb, ltb}
@@ -13,7 +13,7 @@ use Rattle.isa.specs.declared.execute.Outcome.the-variants.{Write as Writes, Ju
 use Rattle.pins.specs.PortWords.{ret-of, request-of}
 use Rattle.pins.specs.declared.ports.Retired.{Retired}
 use Rattle.pins.specs.declared.ports.Request.{Request}
-use Rattle.pins.specs.declared.ports.Request.the-variants.{Read, Write}
+use Rattle.pins.specs.declared.ports.Request.the-variants.{Write}
 use Rattle.window.specs.declared.entry.Entry.{Entry}
 use Rattle.window.specs.declared.entry.Store.{Store}
 use Rattle.window.specs.declared.entry.Tag.the-variants.{Acknowledgment}

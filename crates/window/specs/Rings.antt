@@ -9,7 +9,6 @@ use Rattle.std.specs.declared.option.Option.{Option}
 use Rattle.std.specs.declared.option.Option.the-variants.{Some, None}
 use Rattle.isa.specs.Words.{nth, put}
 use Rattle.isa.specs.Registers.{value-in}
-use Rattle.isa.specs.declared.execute.Outcome.{Outcome}
 use Rattle.pins.specs.PortWords.{optional}
 use Rattle.window.specs.declared.entry.Entry.{Entry}
 use Rattle.window.specs.declared.entry.Store.{Store}
@@ -17,7 +16,7 @@ use Rattle.window.specs.declared.entry.Source.{Source}
 use Rattle.window.specs.declared.entry.Source.the-variants.{Memory, Forwarded}
 use Rattle.window.specs.declared.ring.Ring.{Ring}
 use Rattle.window.specs.declared.stores.StoreBuffer.{StoreBuffer}
-use Rattle.window.specs.Entries.{given, fresh, with-word, with-left, with-right, with-outcome, with-loaded}
+use Rattle.window.specs.Entries.{given, fresh}
 use Rattle.window.specs.Newest.{newest, row-source, source}
 use Rattle.window.specs.Scans.{hits, leaves, decides}
 use Rattle.window.specs.Machine.{Core, with-window, learn, tip}

@@ -1,6 +1,7 @@
 // The laws of every core with a window: each function's contract is the theorem.
 ghost use Rattle.window.specs.Retiring.{Retiring-laws};
 ghost use Rattle.window.specs.Right.{Window-right};
+ghost use Rattle.window.specs.Asking.{Asking-laws};
 ghost use Rattle.window.specs.Datapaths.{Datapath-laws};
 ghost use Rattle.window.specs.Eight.{Eight-runs};
 ghost use Rattle.window.specs.Fairness.{Window-goes-on};
@@ -75,6 +76,13 @@ pub fn datapath_is_machine() -> bool
 // And so are retiring and draining.
 pub fn datapath_retires() -> bool
     ensures { λ _. ⌜ Retiring-laws ⌝ }
+{
+    true
+}
+
+// And requests for loads and devices, and stopping.
+pub fn datapath_asks() -> bool
+    ensures { λ _. ⌜ Asking-laws ⌝ }
 {
     true
 }

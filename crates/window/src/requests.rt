@@ -118,13 +118,7 @@ impl Datapath {
         ensures { λ r. ⌜ r ≡ halt-at (now (self .entry)) outcome ⌝ }
     {
         match outcome {
-            Outcome::Halt(stop) => {
-                if self.free() {
-                    Some(stop)
-                } else {
-                    None
-                }
-            }
+            Outcome::Halt(stop) => { if self.free() { Some(stop) } else { None } }
             _ => None,
         }
     }
