@@ -2,18 +2,20 @@
 use mathlib.Core.Path.{_≡_, refl, sym, _∙_, ap}
 use mathlib.Core.Bool.{cond, _&&_}
 use mathlib.Core.List.{List, [], _∷_, _++_}
-use Prim.Native.Nat.{ℕ, zero, suc, _+_, _/_, _%_, _<_}
+use mathlib.Core.Option.{some}
+use Prim.Native.Nat.{ℕ, zero, suc, _+_, _/_, _%_, _<_, _≤_}
 use native.Mathlib.Numerals.{add-one}
 use native.Mathlib.Omega.{arith}
 use lib.Dec.{eqb, ltb}
 use lib.ListN.{getD, length-set}
-use Rattle.pins.specs.PortWords.{optional}
+use Rattle.isa.specs.Words.{nth}
 use Rattle.window.specs.declared.entry.Store.{Store}
 use Rattle.window.specs.declared.entry.Source.{Source}
 use Rattle.window.specs.declared.entry.Source.the-variants.{Memory, Forwarded}
 use Rattle.window.specs.declared.stores.StoreBuffer.{StoreBuffer}
 use Rattle.window.specs.Newest.{by-store, row-source}
 use Rattle.window.specs.Rings.{no-store, buffer-entry, buffer-pushed, buffer-popped, row-below, around, waiting, rest, Sized-buffer, Buffer-laws}
+use Rattle.window.proofs.Cases.{some-none}
 use Rattle.window.proofs.Circle.{by-test, slot-is, around-length, around-push, around-pop, around-none, around-nth, around-last}
 
 waiting-push : (b : StoreBuffer) (p : Store) → Sized-buffer b → b .count < 8 → waiting (buffer-pushed b p) ≡ waiting b ++ (p ∷ [])
@@ -48,6 +50,25 @@ row-is b i (suc n) =
     ∙ row-push i Memory (around 8 no-store (b .at) (b .begin) n) _
     ∙ ap (λ (p : Store). by-store i (p .address) (p .value) (row-source i Memory (around 8 no-store (b .at) (b .begin) n))) e)
 
+waiting-first : (b : StoreBuffer) → 0 < b .count → waiting b ≡ buffer-entry b 0 ∷ waiting (buffer-popped b)
+unfolding waiting
+waiting-first b l = by (waiting b) refl
+  where
+    at : nth (waiting b) 0 ≡ some (buffer-entry b 0)
+    at = around-nth 8 (omega arith) no-store (b .at) (b .begin) (b .count) 0 l ∙ ap (λ z. some (getD (b .at) z no-store)) (sym (slot-is 8 (b .begin) 0))
+
+    by : (ps : List Store) → waiting b ≡ ps → waiting b ≡ buffer-entry b 0 ∷ waiting (buffer-popped b)
+    by [] e = some-none at (ap (λ (z : List Store). nth z 0) e)
+    by (x ∷ ps) e =
+        let h : some x ≡ some (buffer-entry b 0) = sym (ap (λ (z : List Store). nth z 0) e) ∙ at in
+        let same : x ≡ buffer-entry b 0 = cc in
+        let tail : ps ≡ waiting (buffer-popped b) = sym (waiting-pop b ∙ ap rest e) in
+        e ∙ (λ i. same i ∷ tail i)
+
+waiting-empty : (b : StoreBuffer) → b .count ≤ 0 → waiting b ≡ []
+unfolding waiting
+waiting-empty b h = let e : b .count ≡ 0 = omega arith in ap (λ n. around 8 no-store (b .at) (b .begin) n) e
+
 pub buffer-laws : Buffer-laws
 unfolding waiting
 buffer-laws = record {
@@ -55,7 +76,8 @@ buffer-laws = record {
   count = λ b. around-length 8 (omega arith) no-store (b .at) (b .begin) (b .count);
   push = waiting-push;
   pop = waiting-pop;
-  oldest = λ b l. ap optional (around-nth 8 (omega arith) no-store (b .at) (b .begin) (b .count) 0 l ∙ ap (λ z. mathlib.Core.Option.some (getD (b .at) z no-store)) (sym (slot-is 8 (b .begin) 0)));
+  first = waiting-first;
+  empty = waiting-empty;
   source = λ b i. row-is b i (b .count);
   start-sized = record { slots = refl; count = omega arith };
   push-sized = λ b p s. by-test Sized-buffer (b .count) 8 _ _ (λ l. record { slots = length-set (b .at) _ p ∙ s .slots; count = omega arith }) (λ l. s);

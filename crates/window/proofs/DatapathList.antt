@@ -1,9 +1,8 @@
 -- The datapath's rules are the machine's on its lists.
-use mathlib.Core.Path.{_≡_, refl, sym, _∙_, ap, subst}
-use mathlib.Core.Bool.{Bool, true, false}
+use mathlib.Core.Path.{_≡_, refl, sym, _∙_, ap}
 use mathlib.Core.List.{List, [], _∷_, _++_}
 use mathlib.Core.Option.{Option as Opt, some, none}
-use Prim.Native.Nat.{ℕ, zero, suc, _+_, _-_, _/_, _<_, _≤_}
+use Prim.Native.Nat.{ℕ, suc, _+_, _-_, _/_, _<_}
 use native.Mathlib.Omega.{arith}
 use lib.ListN.{take, replicate}
 use Rattle.std.specs.declared.option.Option.{Option}
@@ -25,7 +24,7 @@ use Rattle.window.specs.Operands.{left-register, right-register}
 use Rattle.window.specs.Machine.{Core, with-window, with-requests, with-fetches, learn, read-left, read-right, execute, forwarded, forward-outcome, forward, kept, retags, renumbers, redirect, device-answered, get-data, take-data, get-code, take-code, next-pc, fetch}
 use Rattle.window.specs.Rings.{size, entry, entry-at, put-at, cut-to, items, rest, Sized}
 use Rattle.window.specs.Queues.{request-oldest, request-popped, fetch-oldest, fetch-popped, tags, wants}
-use Rattle.window.specs.Datapaths.{with-ring, left-for, right-for, outcome-for, forward-by, forward-for, ruled, with-wants, with-tags, with-reading, code-for, code-taken, data-for, data-taken, redirect-to, redirected, next-pc-of, wanted, lists, Sized-datapath, Datapath-laws}
+use Rattle.window.specs.Datapaths.{left-for, right-for, outcome-for, forward-by, forward-for, ruled, with-wants, with-tags, with-reading, code-for, code-taken, data-for, data-taken, redirect-to, redirected, next-pc-of, wanted, lists, Sized-datapath, Datapath-laws}
 use Rattle.window.proofs.Cases.{given-cases}
 use Rattle.window.proofs.Circle.{by-test}
 use Rattle.window.proofs.RingList.{ring-laws}

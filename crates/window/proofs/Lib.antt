@@ -35,3 +35,5 @@ pub mod Refined
 pub mod QueueList
 pub mod EightRuns
 pub mod DatapathList
+pub mod RetiringList
+pub mod AskingList

@@ -13,3 +13,5 @@ pub mod Refining
 pub mod Queues
 pub mod Eight
 pub mod Datapaths
+pub mod Retiring
+pub mod Asking

@@ -9,7 +9,6 @@ use Rattle.std.specs.declared.option.Option.{Option}
 use Rattle.std.specs.declared.option.Option.the-variants.{Some, None}
 use Rattle.isa.specs.Words.{nth, put}
 use Rattle.isa.specs.Registers.{value-in}
-use Rattle.isa.specs.declared.execute.Outcome.{Outcome}
 use Rattle.pins.specs.PortWords.{optional}
 use Rattle.window.specs.declared.entry.Entry.{Entry}
 use Rattle.window.specs.declared.entry.Store.{Store}
@@ -17,7 +16,7 @@ use Rattle.window.specs.declared.entry.Source.{Source}
 use Rattle.window.specs.declared.entry.Source.the-variants.{Memory, Forwarded}
 use Rattle.window.specs.declared.ring.Ring.{Ring}
 use Rattle.window.specs.declared.stores.StoreBuffer.{StoreBuffer}
-use Rattle.window.specs.Entries.{given, fresh, with-word, with-left, with-right, with-outcome, with-loaded}
+use Rattle.window.specs.Entries.{given, fresh}
 use Rattle.window.specs.Newest.{newest, row-source, source}
 use Rattle.window.specs.Scans.{hits, leaves, decides}
 use Rattle.window.specs.Machine.{Core, with-window, learn, tip}
@@ -56,24 +55,6 @@ entry-at w n = cond (ltb n (w .count)) (Some (entry w n)) None
 
 abbrev pub put-at : Ring → ℕ → Entry → Ring
 put-at w n e = cond (ltb n (w .count)) (with-at w (set (w .at) (slot w n) e)) w
-
-abbrev pub learn-at : (Entry → Entry) → Ring → ℕ → Ring
-learn-at f w n = put-at w n (f (entry w n))
-
-abbrev pub word-at : Ring → ℕ → ℕ → Ring
-word-at w n x = learn-at (λ e. with-word e x) w n
-
-abbrev pub left-at : Ring → ℕ → ℕ → Ring
-left-at w n x = learn-at (λ e. with-left e x) w n
-
-abbrev pub right-at : Ring → ℕ → ℕ → Ring
-right-at w n x = learn-at (λ e. with-right e x) w n
-
-abbrev pub outcome-at : Ring → ℕ → Outcome → Ring
-outcome-at w n o = learn-at (λ e. with-outcome e o) w n
-
-abbrev pub loaded-at : Ring → ℕ → ℕ → Ring
-loaded-at w n x = learn-at (λ e. with-loaded e x) w n
 
 -- from the newest before the n-th on: which may write the register
 abbrev pub writer-below : Ring → ℕ → ℕ → Option ℕ
@@ -182,7 +163,8 @@ pub record Buffer-laws : Type 0 where
   pub count : (b : StoreBuffer) → length (waiting b) ≡ b .count
   pub push : (b : StoreBuffer) (p : Store) → Sized-buffer b → b .count < 8 → waiting (buffer-pushed b p) ≡ waiting b ++ (p ∷ [])
   pub pop : (b : StoreBuffer) → waiting (buffer-popped b) ≡ rest (waiting b)
-  pub oldest : (b : StoreBuffer) → 0 < b .count → optional (nth (waiting b) 0) ≡ Some (buffer-entry b 0)
+  pub first : (b : StoreBuffer) → 0 < b .count → waiting b ≡ buffer-entry b 0 ∷ waiting (buffer-popped b)
+  pub empty : (b : StoreBuffer) → b .count ≤ 0 → waiting b ≡ []
   pub source : (b : StoreBuffer) (i : ℕ) → buffer-source b i ≡ row-source i Memory (waiting b)
   pub start-sized : Sized-buffer buffer-start
   pub push-sized : (b : StoreBuffer) (p : Store) → Sized-buffer b → Sized-buffer (buffer-pushed b p)

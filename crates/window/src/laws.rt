@@ -1,5 +1,7 @@
 // The laws of every core with a window: each function's contract is the theorem.
+ghost use Rattle.window.specs.Retiring.{Retiring-laws};
 ghost use Rattle.window.specs.Right.{Window-right};
+ghost use Rattle.window.specs.Asking.{Asking-laws};
 ghost use Rattle.window.specs.Datapaths.{Datapath-laws};
 ghost use Rattle.window.specs.Eight.{Eight-runs};
 ghost use Rattle.window.specs.Fairness.{Window-goes-on};
@@ -67,6 +69,20 @@ pub fn queues_are_lists() -> bool
 // The datapath's rules are the machine's on the lists that it stands for.
 pub fn datapath_is_machine() -> bool
     ensures { λ _. ⌜ Datapath-laws ⌝ }
+{
+    true
+}
+
+// And so are retiring and draining.
+pub fn datapath_retires() -> bool
+    ensures { λ _. ⌜ Retiring-laws ⌝ }
+{
+    true
+}
+
+// And requests for loads and devices, and stopping.
+pub fn datapath_asks() -> bool
+    ensures { λ _. ⌜ Asking-laws ⌝ }
 {
     true
 }

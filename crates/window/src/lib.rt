@@ -4,5 +4,7 @@ pub mod entry;
 pub mod known;
 pub mod laws;
 pub mod queues;
+mod requests;
+mod retire;
 pub mod ring;
 pub mod stores;

@@ -2,11 +2,10 @@
 ghost use mathlib.Core.Path.{_≡_};
 ghost use Prim.Native.Nat.{ℕ, _<_};
 ghost use lib.Dec.{leb};
-ghost use Rattle.window.specs.Rings.{size, slot, entry, ring-start, pushed, popped, cut-to, put-at, entry-at, word-at, left-at, right-at, outcome-at, loaded-at, writer-below, operand, store-below, source-in};
+ghost use Rattle.window.specs.Rings.{size, slot, entry, ring-start, pushed, popped, cut-to, put-at, entry-at, writer-below, operand, store-below, source-in};
 use crate::entry::Entry;
 use crate::entry::Source;
 use crate::stores::StoreBuffer;
-use isa::execute::Outcome;
 use isa::reg::Reg;
 use isa::regs::Regs;
 
@@ -98,46 +97,6 @@ impl Ring {
         if n < self.count {
             self.at[i] = e;
         }
-    }
-
-    pub fn learn_word(&mut self, n: u32, x: u32)
-        ensures { λ _. ⌜ now (self .exit) ≡ word-at (now (self .entry)) n x ⌝ }
-    {
-        let mut e = self.entry(n);
-        e.learn_word(x);
-        self.put(n, e);
-    }
-
-    pub fn learn_left(&mut self, n: u32, x: u32)
-        ensures { λ _. ⌜ now (self .exit) ≡ left-at (now (self .entry)) n x ⌝ }
-    {
-        let mut e = self.entry(n);
-        e.learn_left(x);
-        self.put(n, e);
-    }
-
-    pub fn learn_right(&mut self, n: u32, x: u32)
-        ensures { λ _. ⌜ now (self .exit) ≡ right-at (now (self .entry)) n x ⌝ }
-    {
-        let mut e = self.entry(n);
-        e.learn_right(x);
-        self.put(n, e);
-    }
-
-    pub fn learn_outcome(&mut self, n: u32, o: Outcome)
-        ensures { λ _. ⌜ now (self .exit) ≡ outcome-at (now (self .entry)) n o ⌝ }
-    {
-        let mut e = self.entry(n);
-        e.learn_outcome(o);
-        self.put(n, e);
-    }
-
-    pub fn learn_loaded(&mut self, n: u32, x: u32)
-        ensures { λ _. ⌜ now (self .exit) ≡ loaded-at (now (self .entry)) n x ⌝ }
-    {
-        let mut e = self.entry(n);
-        e.learn_loaded(x);
-        self.put(n, e);
     }
 
     // The newest instruction before the n-th that may write the register.
