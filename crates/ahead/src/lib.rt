@@ -1,4 +1,6 @@
 // The public calls: a core that is started and clocked in lent words, at its ports.
+#![tactic(auto)]
+
 ghost use Rattle.pins.specs.Says.{StartedPost, ClockedPost};
 ghost use Rattle.first.specs.Stands.{Stands};
 ghost use Rattle.first.specs.Parts.{Parts};

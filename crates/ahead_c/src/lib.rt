@@ -1,4 +1,6 @@
 // The public calls for C: numbers for answers, and each slice as a pointer and then its length.
+#![tactic(auto)]
+
 ghost use Rattle.ahead_c.specs.Codes.{StartedFor, ClockedFor};
 
 use pins::{Clocked, Started};

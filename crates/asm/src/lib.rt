@@ -1,4 +1,6 @@
 // Text of programs: an assembler, a disassembler and a reader of hex words.
+#![tactic(auto)]
+
 pub mod assemble;
 pub mod cursor;
 pub mod error;

@@ -1,4 +1,6 @@
 // Runs the assembler, the disassembler and the hex reader on the files of data/, and prints what they give.
+#![tactic(auto)]
+
 use anyhow::anyhow;
 use asm::assemble::assemble;
 use asm::hex::read_hex;

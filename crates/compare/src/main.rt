@@ -1,4 +1,6 @@
 // Runs programs on the core and on the manual side by side, and shows the first difference.
+#![tactic(auto)]
+
 mod options;
 mod program;
 

@@ -1,4 +1,6 @@
 // From an instruction to its word.
+#![tactic(auto)]
+
 ghost use Rattle.std.specs.Prelude.{◌≡◌, true, IfSome, Some};
 ghost use Rattle.isa.specs.Decoding.{decodes};
 

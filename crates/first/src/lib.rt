@@ -1,4 +1,6 @@
 // The first core: one instruction at work, code fetched ahead, stores that wait in a buffer of eight.
+#![tactic(auto)]
+
 mod fetch;
 mod lsu;
 pub mod state;

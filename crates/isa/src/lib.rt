@@ -1,4 +1,6 @@
 // The instruction set: words taken apart, and what one instruction does at given operands.
+#![tactic(auto)]
+
 pub mod alu;
 pub mod decode;
 pub mod execute;

@@ -1,4 +1,6 @@
 // The core's ports: what the two public calls answer, and the words of one clock.
+#![tactic(auto)]
+
 pub mod laws;
 pub mod ports;
 

@@ -1,4 +1,5 @@
 // Runs a table of single instructions through the instruction set, and a small program through the reference.
+#![tactic(auto)]
 
 mod instructions;
 mod program;

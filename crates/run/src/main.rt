@@ -1,4 +1,6 @@
 // Runs a program on the core and prints what is done, clock by clock.
+#![tactic(auto)]
+
 mod options;
 mod program;
 mod record;

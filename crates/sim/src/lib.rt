@@ -1,4 +1,6 @@
 // The outside of a core: memories and devices that answer after a time.
+#![tactic(auto)]
+
 pub mod delay;
 pub mod devices;
 pub mod error;

@@ -1,4 +1,6 @@
 // How many clocks a second the core does, and what part of that is reading and writing its words.
+#![tactic(auto)]
+
 mod rig;
 
 use anyhow::anyhow;

@@ -1,4 +1,6 @@
 // The core on the bench: programs loaded, run and compared with the manual.
+#![tactic(auto)]
+
 pub mod args;
 pub mod checker;
 pub mod effects;

@@ -1,4 +1,6 @@
 // Shows the checker what a core must not do, and what it says of it.
+#![tactic(auto)]
+
 mod cases;
 mod history;
 

@@ -1,4 +1,6 @@
 // What is recorded of a run: waveforms and a commit log.
+#![tactic(auto)]
+
 pub mod commit;
 pub mod sample;
 pub mod vcd;

@@ -1,4 +1,6 @@
 // The waveforms and the commit log of a run.
+#![tactic(auto)]
+
 use asm::program::Program;
 use first::state::Core;
 use sim::delay::Delay;

@@ -1,4 +1,6 @@
 // Runs the worked programs on the core and side by side with the manual, and checks what is known of them.
+#![tactic(auto)]
+
 mod case;
 mod facts;
 mod record;

@@ -7,5 +7,5 @@ use Rattle.isa.proofs.decode.decode.Goals as goal
 pub returns : goal.returns
 unfolding decodes
 returns c =
-    let e = c.decode-by-opcode.ensures in
+    let e = c.decode_by_opcode.ensures in
     record { value = e; manual = λ s. decodes_to c.args.word s ∙ ap (λ d. enact s (outcome_in s.regs s.pc d)) (sym e) }

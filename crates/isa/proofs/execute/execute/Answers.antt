@@ -3,4 +3,4 @@ use Rattle.isa.proofs.execute.execute.Goals as goal
 
 pub returns : goal.returns
 unfolding executed
-returns c = c.execute-kind.ensures
+returns c = c.execute_kind.ensures

@@ -11,10 +11,10 @@ returns-then-pc-ne0 c =
     let e = work_stray gs c.args.pc c.args.word (ne_eqb (c.args.pc % 4) 0 (λ e. omega arith)) in
     record { value = e; manual = as_works gs c.args.pc c.args.word e }
 
-pub returns-in-default : goal.returns-in-default
-returns-in-default c =
+pub returns-in_default : goal.returns-in_default
+returns-in_default c =
     let gs = c.args.regs.now.values in
-    let e = work_decoded gs c.args.pc c.args.word None (eq-eqb (c.args.pc % 4) 0 (omega arith)) c.in-default.ensures.value in
+    let e = work_decoded gs c.args.pc c.args.word None (eq-eqb (c.args.pc % 4) 0 (omega arith)) c.in_default.ensures.value in
     record { value = e; manual = as_works gs c.args.pc c.args.word e }
 
 pub returns : goal.returns
