@@ -15,14 +15,14 @@ use Rattle.first.proofs.clock.Goals as goal
 pub save-requires : goal.save-requires
 save-requires c = omega (arith, long c.args.core.now c.in-Some-load.state (sym c.in-Some-load.ensures))
 
-pub returns-in-default : goal.returns-in-default
-returns-in-default c = record { post = record { says = search rules; right = always_right; goes_on = goes_on }; parts = parts }
+pub returns-in_default : goal.returns-in_default
+returns-in_default c = record { post = record { says = search rules; right = always_right; goes_on = goes_on }; parts = parts }
 
 pub returns-then-outs-ne20 : goal.returns-then-outs-ne20
 returns-then-outs-ne20 c = record { post = record { says = search rules; right = always_right; goes_on = goes_on }; parts = parts }
 
-pub returns-in-default-load : goal.returns-in-default-load
-returns-in-default-load c = record { post = record { says = (call_laws Core).no_core machine decode c.args.core.now c.args.core.now c.args.ins.now c.args.outs.now c.args.outs.now (sym c.in-default-load.ensures) refl refl; right = always_right; goes_on = goes_on }; parts = parts }
+pub returns-in_default-load : goal.returns-in_default-load
+returns-in_default-load c = record { post = record { says = (call_laws Core).no_core machine decode c.args.core.now c.args.core.now c.args.ins.now c.args.outs.now c.args.outs.now (sym c.in_default-load.ensures) refl refl; right = always_right; goes_on = goes_on }; parts = parts }
 
 pub returns : goal.returns
 returns c =
