@@ -2,9 +2,9 @@ use Rattle.std.proofs.Common.{refl}
 use Rattle.reference.proofs.Asking.{no_answer, answered}
 use Rattle.reference.proofs.machine.Machine.ask.Goals as goal
 
-pub returns-in-default : goal.returns-in-default
-returns-in-default c = record {
-  next = no_answer c.args.self.now c.args.answers.now c.args.rd.number c.args.address c.in-default.ensures.lookup.3;
+pub returns-in_default : goal.returns-in_default
+returns-in_default c = record {
+  next = no_answer c.args.self.now c.args.answers.now c.args.rd.number c.args.address c.in_default.ensures.lookup.3;
   stays = refl;
 }
 

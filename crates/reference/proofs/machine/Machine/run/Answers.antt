@@ -11,32 +11,32 @@ use Rattle.reference.proofs.machine.Machine.run.Goals as goal
 pub loop-init : goal.loop-init
 loop-init c = none_yet (words_of c.args.code.now) (state c.args.self.now c.args.answers.now) c.new-history.ensures.traces c.new-history.ensures.effects c.new-history.ensures.end
 
-pub returns-in-err-trace : goal.returns-in-err-trace
-returns-in-err-trace c =
-    on_the_way c.from-residual.result c.from-residual.ensures.0 c.loop.auto.counter-end
-    (subst (λ (u : S). At (words_of c.args.code.now) (state c.args.self.now c.args.answers.now) c.loop.counter u) (sym c.in-err-trace.ensures) c.loop.invariant.at)
+pub returns-in_err-trace : goal.returns-in_err-trace
+returns-in_err-trace c =
+    on_the_way c.from_residual.result c.from_residual.ensures.0 c.loop.auto.counter-end
+    (subst (λ (u : S). At (words_of c.args.code.now) (state c.args.self.now c.args.answers.now) c.loop.counter u) (sym c.in_err-trace.ensures) c.loop.invariant.at)
 
-pub returns-in-err-push : goal.returns-in-err-push
-returns-in-err-push c =
-    on_the_way c.from-residual-in-err-push.result c.from-residual-in-err-push.ensures.0 c.loop-test.true
-    (at_suc c.loop.invariant.at (sym (came c.in-Done.is c.in-ok-trace.ensures)))
+pub returns-in_err-push-in-Done : goal.returns-in_err-push-in-Done
+returns-in_err-push-in-Done c =
+    on_the_way c.from_residual-in_err-push-in-Done.result c.from_residual-in_err-push-in-Done.ensures.0 c.loop-test.true
+    (at_suc c.loop.invariant.at (sym (came c.in-Done.is c.in_ok-trace.ensures)))
 
 pub returns-in-Stopped : goal.returns-in-Stopped
 returns-in-Stopped c =
     let past = c.ended.ensures in
-    ended c.loop.invariant c.ended.result (came c.in-Stopped.is c.in-ok-trace.ensures) c.args.count c.loop-test.true
+    ended c.loop.invariant c.ended.result (came c.in-Stopped.is c.in_ok-trace.ensures) c.args.count c.loop-test.true
     past.traces past.effects (Stopped c.in-Stopped.stop) past.end (state c.step.new.self c.args.answers.now) (λ e. e)
 
 pub returns-in-NoAnswer : goal.returns-in-NoAnswer
 returns-in-NoAnswer c =
     let past = c.ended-in-NoAnswer.ensures in
-    ended c.loop.invariant c.ended-in-NoAnswer.result (came c.in-NoAnswer.is c.in-ok-trace.ensures) c.args.count c.loop-test.true
+    ended c.loop.invariant c.ended-in-NoAnswer.result (came c.in-NoAnswer.is c.in_ok-trace.ensures) c.args.count c.loop-test.true
     past.traces past.effects NoAnswer past.end (state c.step.new.self c.args.answers.now) (λ e. e)
 
 pub loop-preserved : goal.loop-preserved
 loop-preserved c =
-    let pushed = c.in-ok-push.ensures in
-    one_more c.loop.invariant c.push.new.self c.in-Done.trace c.in-Done.effect (came c.in-Done.is c.in-ok-trace.ensures)
+    let pushed = c.in_ok-push-in-Done.ensures in
+    one_more c.loop.invariant c.push.new.self c.in-Done.trace c.in-Done.effect (came c.in-Done.is c.in_ok-trace.ensures)
     pushed.traces pushed.effects pushed.end
 
 pub returns : goal.returns

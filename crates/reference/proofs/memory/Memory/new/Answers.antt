@@ -4,4 +4,4 @@ use Rattle.reference.proofs.memory.Memory.new.Goals as goal
 
 pub returns : goal.returns
 unfolding words_of
-returns c = reads_none c.new.result c.new.ensures.keys c.new.ensures.vals
+returns c = reads_none c.new.result c.new.ensures.empty
