@@ -4,9 +4,10 @@
 mod options;
 mod program;
 
-use testbench::failure::{Failure, report};
+use std::process::ExitCode;
+use testbench::failure::exit_code;
 
-fn main(rt: HostRuntime) -> Result<(), Failure> {
+fn main(rt: HostRuntime) -> ExitCode {
     let result = program::run(&rt);
-    report(&rt, "compare", result)
+    exit_code(&rt, "compare", result)
 }

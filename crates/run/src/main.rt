@@ -5,9 +5,10 @@ mod options;
 mod program;
 mod record;
 
-use testbench::failure::{Failure, report};
+use std::process::ExitCode;
+use testbench::failure::exit_code;
 
-fn main(rt: HostRuntime) -> Result<(), Failure> {
+fn main(rt: HostRuntime) -> ExitCode {
     let result = program::run(&rt);
-    report(&rt, "run", result)
+    exit_code(&rt, "run", result)
 }

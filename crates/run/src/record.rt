@@ -125,7 +125,7 @@ impl Recorder {
 
 fn create(rt: &HostRuntime, path: &str) -> Result<BufWriter<File>, Failure> {
     match fs::create(rt, path) {
-        Ok(file) => Ok(BufWriter::new(file)),
+        Ok(file) => Ok(BufWriter::new(rt.alloc(), file)?),
         Err(e) => Err(Failure::Input(format!(in rt.alloc(); "{path}: {e}")?)),
     }
 }

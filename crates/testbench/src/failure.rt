@@ -1,6 +1,7 @@
 // Why a program can't go on.
 use sim::error::WorldError;
 use std::alloc::{AllocError, AllocFailed};
+use std::process::ExitCode;
 use std::{fmt, io};
 
 #[derive(Drop)]
@@ -65,4 +66,12 @@ pub fn report(rt: &HostRuntime, name: &str, res: Result<(), Failure>) -> Result<
         }
     }
     res
+}
+
+// The same, and how the program ends: 0, or 1 after an error.
+pub fn exit_code(rt: &HostRuntime, name: &str, res: Result<(), Failure>) -> ExitCode {
+    match report(rt, name, res) {
+        Ok(()) => ExitCode::SUCCESS,
+        Err(_) => ExitCode::FAILURE,
+    }
 }

@@ -4,9 +4,10 @@
 mod cases;
 mod history;
 
-use testbench::failure::{Failure, report};
+use std::process::ExitCode;
+use testbench::failure::exit_code;
 
-fn main(rt: HostRuntime) -> Result<(), Failure> {
+fn main(rt: HostRuntime) -> ExitCode {
     let result = cases::show_all(&rt);
-    report(&rt, "testbench_tests", result)
+    exit_code(&rt, "testbench_tests", result)
 }

@@ -5,7 +5,8 @@ use asm::program::Program;
 use first::state::Core;
 use sim::delay::Delay;
 use sim::devices::Rest;
-use testbench::failure::{Failure, report};
+use std::process::ExitCode;
+use testbench::failure::{Failure, exit_code};
 use testbench::files::{Format, read_program};
 use testbench::session::Session;
 use testbench::setup::Setup;
@@ -69,7 +70,7 @@ fn show(rt: &HostRuntime) -> Result<(), Failure> {
     show_waves(rt, &program)
 }
 
-fn main(rt: HostRuntime) -> Result<(), Failure> {
+fn main(rt: HostRuntime) -> ExitCode {
     let result = show(&rt);
-    report(&rt, "waves_tests", result)
+    exit_code(&rt, "waves_tests", result)
 }

@@ -7,14 +7,15 @@ mod record;
 mod refusals;
 mod table;
 
-use testbench::failure::{Failure, report};
+use std::process::ExitCode;
+use testbench::failure::{Failure, exit_code};
 
 fn run(rt: &HostRuntime) -> Result<(), Failure> {
     table::show_all(rt)?;
     refusals::show(rt)
 }
 
-fn main(rt: HostRuntime) -> Result<(), Failure> {
+fn main(rt: HostRuntime) -> ExitCode {
     let result = run(&rt);
-    report(&rt, "worked", result)
+    exit_code(&rt, "worked", result)
 }
