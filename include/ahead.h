@@ -1,4 +1,4 @@
-/* A RISC-V core at its pins, for C and C++. Link with libahead_c.a (made by: rt staticlib ahead_c).
+/* A RISC-V core at its pins, for C and C++. Link with libahead_c.a (made by: cd crates/ahead_c && rt lib).
  *
  * A core lives in AHEAD_CORE_WORDS words that the caller lends; several may be used side by side.
  *

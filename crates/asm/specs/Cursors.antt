@@ -1,5 +1,5 @@
 -- Where a cursor stands.
-use Rattle.std.specs.Prelude.{ℕ, Bool, cond}
+use Rattle.std.specs.Prelude.{ℕ, cond}
 use Rattle.std.specs.Option.{unwrap_or}
 use Rattle.asm.specs.declared.cursor.Cursor.{Cursor}
 

@@ -1,16 +1,14 @@
 -- Doing what was decided is the model's doing it.
-use Rattle.std.proofs.Common.{◌≡◌, ℕ, zero, suc, ◌+◌, ◌<◌, ◌≤◌, Bool, true, false, cond, ◌&&◌, eqb, ltb, List, [], ◌∷◌, ◌++◌, length, get_or, Some, None, Option, sym, refl, ap, ◌∙◌, subst, ap₂, arith}
-use mathlib.Core.Option.{Option as Opt, some, none}
+use Rattle.std.proofs.Common.{◌≡◌, ℕ, ◌<◌, Bool, true, false, ◌&&◌, ltb, List, Some, None, Option, refl}
+use mathlib.Core.Option.{Option as Opt}
 use Rattle.std.proofs.lemmas.Bool.{ltb-true}
 use Rattle.isa.specs.Words.{add}
-use Rattle.isa.specs.Manual.{Ret, device}
+use Rattle.isa.specs.Manual.{device}
 use Rattle.isa.specs.Executing.{work}
 use Rattle.isa.specs.declared.reg.Reg.{Reg}
-use Rattle.isa.specs.declared.execute.Stop.{Stop}
 use Rattle.isa.specs.declared.execute.Outcome.{Outcome}
 use Rattle.isa.specs.declared.execute.Outcome.TheVariants.{Write as Writes, Jump as Jumps, Load as Loads, Store as Stores, Halt as Halts}
-use Rattle.pins.specs.Ports.{Req}
-use Rattle.pins.specs.PortWords.{plain, stop_word, request_of, done_list}
+use Rattle.pins.specs.PortWords.{request_of, done_list}
 use Rattle.first.specs.declared.state.Store.{Store}
 use Rattle.first.specs.declared.state.Open.{Open}
 use Rattle.first.specs.declared.state.Open.TheVariants.{Load as ForLoad}
@@ -22,10 +20,10 @@ use Rattle.first.specs.declared.state.Action.TheVariants.{Wait, Halt, Write, Jum
 use Rattle.first.specs.StoreRules.{forwarded}
 use Rattle.first.specs.LsuRules.{lsu_room}
 use Rattle.first.specs.FetchRules.{fetch_head}
-use Rattle.first.specs.WorkRules.{no_stores, ask_device, forward_or_ask, load_action, outcome_action, word_action, is_some, action_unless, action, act, effect}
-use Rattle.first.specs.Model.{Fetching, Storing, Model, Did, apply}
+use Rattle.first.specs.WorkRules.{no_stores, forward_or_ask, load_action, outcome_action, word_action, is_some, action_unless, action, act, effect}
+use Rattle.first.specs.Model.{Fetching, Model, apply}
 use Rattle.first.proofs.Tests.{both_left, by_cond}
-use Rattle.first.proofs.ModelOf.{waiting, opened, fetching, model_of, Sized, SizedStores}
+use Rattle.first.proofs.ModelOf.{model_of, Sized}
 use Rattle.first.proofs.FetchModel.{goto_is, goto_sized}
 use Rattle.first.proofs.StoreModel as stores
 use Rattle.first.proofs.LsuModel as lsu

@@ -1,5 +1,5 @@
 -- The first core is always right.
-use Rattle.std.proofs.Common.{◌≡◌, ℕ, ◌%◌, List, [], ◌∷◌, length, sym, refl, ap, ◌∙◌, subst, arith}
+use Rattle.std.proofs.Common.{◌≡◌, ℕ, ◌%◌, [], length, sym, refl, ap, ◌∙◌, subst, arith}
 use Rattle.isa.specs.Manual.{Code, Mem}
 use Rattle.isa.proofs.Does.{single_laws}
 use Rattle.isa.proofs.StepByTrace.{step_laws}
@@ -8,14 +8,14 @@ use Rattle.isa.proofs.MoreAnswers.{answer_laws}
 use Rattle.pins.specs.Ports.{In, Out}
 use Rattle.pins.specs.PortWords.{inputs_of, shown}
 use Rattle.pins.specs.Says.{AlwaysRight}
-use Rattle.pins.specs.View.{View, view, take_in, add_out, Allowed, RightView}
-use Rattle.pins.specs.Reach.{Mealy, Invariant}
+use Rattle.pins.specs.View.{View, view, take_in, add_out, Allowed}
+use Rattle.pins.specs.Reach.{Invariant}
 use Rattle.pins.proofs.Invariants.{invariant_laws}
 use Rattle.pins.proofs.Settling.{settled_laws}
 use Rattle.first.specs.declared.state.Core.{Core}
 use Rattle.first.specs.WorkRules.{core_start}
 use Rattle.first.specs.Step.{next, outputs}
-use Rattle.first.specs.Model.{Model, model_start, Clock, model_next}
+use Rattle.first.specs.Model.{Model, model_start, model_next}
 use Rattle.first.specs.Layout.{decode}
 use Rattle.first.specs.Stands.{machine, Stands}
 use Rattle.first.specs.Parts.{AtWork, Parts}

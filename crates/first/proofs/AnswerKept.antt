@@ -1,14 +1,13 @@
 -- The rule that takes an answer to a request keeps the invariant.
-use Rattle.std.proofs.Common.{◌≡◌, ℕ, suc, ◌/◌, ◌≤◌, Bool, true, false, List, [], ◌∷◌, ◌++◌, length, sym, refl, ap, ◌∙◌, subst, append-nil, arith}
+use Rattle.std.proofs.Common.{◌≡◌, ℕ, ◌/◌, ◌≤◌, Bool, true, false, List, [], ◌∷◌, ◌++◌, length, sym, refl, ap, ◌∙◌, subst, append-nil, arith}
 use mathlib.Core.Option.{Option, some, none}
 use Rattle.isa.specs.Words.{pick}
-use Rattle.isa.specs.Manual.{Code, Mem, device, S, Ret, Ev, asks, goes, stops, Run, run}
+use Rattle.isa.specs.Manual.{Code, Mem, device, S, Ret, Ev, asks, Run, run}
 use Rattle.isa.specs.Traces.{effects}
-use Rattle.isa.specs.Runs.{At, more_answers, run_more}
+use Rattle.isa.specs.Runs.{At, more_answers}
 use Rattle.isa.proofs.RunSteps.{goes_not_stops}
 use Rattle.isa.proofs.MoreAnswers.{answer_laws}
 use Rattle.pins.specs.Ports.{reads}
-use Rattle.pins.specs.Says.{first}
 use Rattle.pins.specs.View.{View, pop, DataAllowed}
 use Rattle.pins.specs.View as view
 use Rattle.pins.specs.Settled.{Due, any_word, from_device, that_word, due, dues, Meets, tells}
@@ -20,8 +19,8 @@ use Rattle.first.specs.declared.state.Load.{Load}
 use Rattle.first.specs.declared.state.Load.TheVariants.{Idle, Waiting, Answered}
 use Rattle.first.specs.Model.{Fetching, Storing, Model, answer, take_data}
 use Rattle.first.proofs.Buffered.{row_evs, final}
-use Rattle.first.proofs.Requested.{Acks, OneLoad, Tags}
-use Rattle.first.proofs.Invariant.{unread, asked_ev, stands_at, Works, Halts, Runs, Inv}
+use Rattle.first.proofs.Requested.{Tags}
+use Rattle.first.proofs.Invariant.{Halts, Runs, Inv}
 
 abbrev pub with_storing : Model → Storing → Model
 with_storing k d = record { regs = k.regs; pc = k.pc; fetch = k.fetch; lsu = d; stop = k.stop }

@@ -1,9 +1,9 @@
 -- The other rules keep the invariant, and so does a clock.
-use Rattle.std.proofs.Common.{◌≡◌, ℕ, suc, ◌+◌, ◌<◌, ◌≤◌, Bool, true, false, ltb, List, [], ◌∷◌, ◌++◌, length, sym, refl, ap, ◌∙◌, subst, append_assoc, arith, length-append}
+use Rattle.std.proofs.Common.{◌≡◌, ℕ, ◌<◌, Bool, true, false, ltb, List, [], ◌∷◌, ◌++◌, length, sym, refl, ◌∙◌, subst, append_assoc, arith, length-append}
 use mathlib.Core.Option.{Option, some, none}
 use Rattle.std.proofs.lemmas.Bool.{ltb-true}
 use Rattle.isa.specs.Manual.{Code, Mem, Ev, Ret}
-use Rattle.pins.specs.Ports.{In, Out, Req, reads, writes1}
+use Rattle.pins.specs.Ports.{In, Req, writes1}
 use Rattle.pins.specs.View.{View, take_in, add_out, ask_data, want_code, show_stop, CodeAllowed, DataAllowed, Allowed}
 use Rattle.pins.specs.View as view
 use Rattle.pins.specs.Settled.{dues}
@@ -12,11 +12,11 @@ use Rattle.first.specs.declared.state.Store.{Store}
 use Rattle.first.specs.declared.state.Open.{Open}
 use Rattle.first.specs.declared.state.Open.TheVariants.{Acknowledgment}
 use Rattle.first.specs.declared.state.Load.{Load}
-use Rattle.first.specs.Model.{Fetching, Storing, Model, Did, decide, apply, take_data, take_code, latched, taken, Drained, drain, drain_one, drain_if, want, ended, ending, model_next}
+use Rattle.first.specs.Model.{Fetching, Model, decide, apply, take_code, latched, taken, drain, drain_one, drain_if, want, ending, model_next}
 use Rattle.first.proofs.Fetched.{code_kept, want_kept}
 use Rattle.first.proofs.Buffered.{write_ev, row_evs, final, final_drain}
 use Rattle.first.proofs.Requested.{Tags, tags_store, tags_count}
-use Rattle.first.proofs.Invariant.{stands_at, Works, Halts, Runs, Inv}
+use Rattle.first.proofs.Invariant.{Halts, Runs, Inv}
 use Rattle.first.proofs.AnswerKept.{with_storing, answer_kept}
 use Rattle.first.proofs.WorkKept.{did_view, work_kept}
 

@@ -1,19 +1,18 @@
 -- A clock of the core is a clock of the model, and shows the same.
-use Rattle.std.proofs.Common.{◌≡◌, ℕ, List, [], ◌∷◌, Option, sym, refl, ap, ◌∙◌, subst, ap₂}
-use mathlib.Core.Option.{Option as Opt, some, none}
-use Rattle.isa.specs.Manual.{Ret}
-use Rattle.pins.specs.Ports.{In, Out, Req}
-use Rattle.pins.specs.PortWords.{optional, plain, stop_word, request_of, done_list, inputs_of, shown}
+use Rattle.std.proofs.Common.{◌≡◌, ℕ, Option, ap, ◌∙◌, ap₂}
+use mathlib.Core.Option.{Option as Opt}
+use Rattle.pins.specs.Ports.{In}
+use Rattle.pins.specs.PortWords.{optional, request_of, done_list, inputs_of, shown}
 use Rattle.first.specs.declared.state.Core.{Core}
-use Rattle.first.specs.WorkRules.{action, act, effect}
-use Rattle.first.specs.Step.{answered, worked, work_effect, fetched, drained, wanted, middle, middle_effect, next, outputs}
-use Rattle.first.specs.Model.{Fetching, Storing, Model, Did, decide, apply, latched, taken, take_data, take_code, Drained, drain, want, Clock, ended, ending, model_next}
-use Rattle.first.proofs.ModelOf.{fetching, storing, model_of, Sized}
+use Rattle.first.specs.WorkRules.{action}
+use Rattle.first.specs.Step.{answered, worked, middle, middle_effect, next, outputs}
+use Rattle.first.specs.Model.{Fetching, Storing, Model, Did, decide, apply, latched, taken, take_data, take_code, drain, want, Clock, ending, model_next}
+use Rattle.first.proofs.ModelOf.{storing, model_of, Sized}
 use Rattle.first.proofs.FetchModel as fetch
 use Rattle.first.proofs.LsuModel as lsu
 use Rattle.first.proofs.LsuModel.{SizedLsu, DrainIs}
 use Rattle.first.proofs.WorkModel.{action_is}
-use Rattle.first.proofs.ActModel.{action_fits, ActIs, act_is}
+use Rattle.first.proofs.ActModel.{action_fits, act_is}
 
 with_storing : Model → Storing → Model
 with_storing m d = record { regs = m.regs; pc = m.pc; fetch = m.fetch; lsu = d; stop = m.stop }

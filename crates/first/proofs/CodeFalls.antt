@@ -2,10 +2,10 @@
 use Rattle.std.proofs.Common.{◌≡◌, ℕ, zero, suc, ◌+◌, ◌-◌, ◌*◌, ◌<◌, ◌≤◌, Bool, true, false, ◌&&◌, eqb, ltb, List, [], ◌∷◌, ◌++◌, length, sym, refl, ap, ◌∙◌, subst, arith, length-append}
 use mathlib.Core.Option.{Option, some, none}
 use Rattle.std.proofs.lemmas.Bool.{ltb-true, ltb-false, lt-ltb, ne_eqb, eq-eqb}
-use Rattle.pins.specs.View.{pop, push}
+use Rattle.pins.specs.View.{push}
 use Rattle.pins.specs.Waits.{aged, age0}
 use Rattle.first.specs.Model.{Fetching, took, took_use, take_code, want, want_if}
-use Rattle.first.proofs.Tests.{clash, both_right}
+use Rattle.first.proofs.Tests.{both_right}
 use Rattle.first.proofs.Left.{AskedFor, Young, older, left, older_length, young_push, left_older, left_push, left_new, left_past, left_most}
 
 -- the first want that is of use; if four stale ones fill the port, first one of these

@@ -1,5 +1,5 @@
 -- The core's count of instructions is the count of those that are done.
-use Rattle.std.proofs.Common.{◌≡◌, ℕ, ◌+◌, ◌%◌, List, [], ◌∷◌, ◌++◌, length, sym, refl, ap, ◌∙◌, arith, length-append}
+use Rattle.std.proofs.Common.{◌≡◌, ℕ, ◌+◌, ◌%◌, List, [], ◌∷◌, ◌++◌, length, sym, ap, ◌∙◌, arith, length-append}
 use Rattle.isa.specs.Manual.{Ret}
 use Rattle.pins.specs.Ports.{In}
 use Rattle.pins.specs.PortWords.{inputs_of, shown, done_list}

@@ -1,5 +1,5 @@
 -- While a word is at work and nothing is done, what is still to be requested and answered falls.
-use Rattle.std.proofs.Common.{◌≡◌, ℕ, zero, suc, ◌+◌, ◌-◌, ◌*◌, ◌<◌, ◌≤◌, Bool, true, false, ◌&&◌, ltb, List, [], ◌∷◌, ◌++◌, length, sym, refl, ap, ◌∙◌, subst, arith, length-append}
+use Rattle.std.proofs.Common.{◌≡◌, ℕ, suc, ◌+◌, ◌*◌, ◌<◌, ◌≤◌, Bool, true, false, ltb, List, [], ◌∷◌, length, sym, refl, ap, subst, arith, length-append}
 use mathlib.Core.Option.{Option, some, none}
 use Rattle.std.proofs.lemmas.Bool.{ltb-false, lt-ltb}
 use Rattle.isa.specs.Words.{pick, opt, add}
@@ -18,9 +18,9 @@ use Rattle.first.specs.declared.state.Open.TheVariants.{Acknowledgment, Load as 
 use Rattle.first.specs.declared.state.Load.{Load}
 use Rattle.first.specs.declared.state.Load.TheVariants.{Idle, Waiting, Answered}
 use Rattle.first.specs.declared.state.Action.{Action}
-use Rattle.first.specs.declared.state.Action.TheVariants.{Wait, Halt, Write, Jump, Push, Ask}
+use Rattle.first.specs.declared.state.Action.TheVariants.{Wait, Halt, Write, Push, Ask}
 use Rattle.first.specs.Model.{Fetching, Storing, Model, Did, answer, answer_load, take_data, lookup, if_drained, loading, act, work_on, decide, apply, drain, drain_one, drain_if}
-use Rattle.first.proofs.Left.{AskedFor, Young, older, left, left_most, young_push}
+use Rattle.first.proofs.Left.{AskedFor, Young, older, left, left_most}
 
 -- what is open, what waits, and the load that is not requested yet
 abbrev pub to_ask : Load → ℕ

@@ -3,11 +3,11 @@ use Rattle.std.proofs.Common.{◌≡◌, ℕ, zero, suc, ◌+◌, ◌-◌, ◌%�
 use mathlib.Core.Option.{Option as Opt, some, none}
 use lib.Dec.{eqb-suc-zero}
 use Rattle.std.proofs.lemmas.List.{length-take-le}
-use Rattle.std.proofs.lemmas.Bool.{lt-ltb, eq-eqb, ltb-true}
+use Rattle.std.proofs.lemmas.Bool.{lt-ltb, ltb-true}
 use Rattle.isa.specs.Words.{add}
 use Rattle.pins.specs.PortWords.{optional, plain}
 use Rattle.first.specs.declared.state.Fetch.{Fetch}
-use Rattle.first.specs.FetchRules.{fetch_take, fetch_drop, fetch_keep, fetch_head, fetch_pop, fetch_flush, fetch_goto, fetch_room, fetch_more, fetch_wanted, fetch_want}
+use Rattle.first.specs.FetchRules.{fetch_take, fetch_drop, fetch_keep, fetch_pop, fetch_flush, fetch_goto, fetch_room, fetch_more, fetch_wanted, fetch_want}
 use Rattle.first.specs.Model.{Fetching, rest, refetch, took_use, took, take_code, want_if, want}
 use Rattle.first.proofs.Tests.{clash, both_left, both_right, by_cond}
 use Rattle.first.proofs.ModelOf.{kept, fetching, SizedFetch}

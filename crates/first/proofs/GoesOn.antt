@@ -1,17 +1,16 @@
 -- The first core goes on.
-use Rattle.std.proofs.Common.{◌≡◌, ℕ, zero, suc, ◌+◌, ◌*◌, ◌/◌, ◌<◌, ◌≤◌, Bool, true, false, List, [], ◌∷◌, ◌++◌, map, length, sym, refl, ap, ◌∙◌, subst, arith, length-append}
+use Rattle.std.proofs.Common.{◌≡◌, ℕ, suc, ◌+◌, ◌/◌, ◌<◌, ◌≤◌, List, [], ◌∷◌, ◌++◌, length, sym, refl, ap, ◌∙◌, subst, arith, length-append}
 use mathlib.Core.Option.{Option, some, none}
 use Rattle.isa.specs.Words.{opt}
-use Rattle.isa.specs.Manual.{Code, Mem, Ret, Ev}
+use Rattle.isa.specs.Manual.{Code, Mem}
 use Rattle.isa.specs.Executing.{work}
 use Rattle.pins.specs.Ports.{In, Out, Req}
-use Rattle.pins.specs.PortWords.{inputs_of, shown}
-use Rattle.pins.specs.Outside.{Io, Hist, O, Want, Wish, after, outside, RightIn, ev_of, evs, stopped}
+use Rattle.pins.specs.Outside.{Io, O, Want, Wish, after, ev_of, evs, stopped}
 use Rattle.pins.specs.Says.{here, Goes_on}
 use Rattle.pins.specs.View.{View, view, pop, addrs, reqs, CodeAllowed, DataAllowed, Allowed}
 use Rattle.pins.specs.View as views
 use Rattle.pins.specs.Waits.{ages, ages1, aged, age0}
-use Rattle.pins.specs.Reach.{Mealy, clock_io, Reach, clocked}
+use Rattle.pins.specs.Reach.{clock_io, clocked}
 use Rattle.pins.specs.Settled.{Due, dues}
 use Rattle.pins.specs.Progress.{Point, around, Clock, Retires, Owes, DrainsEach, rank_each}
 use Rattle.pins.specs.Progress as progress
@@ -26,10 +25,8 @@ use Rattle.first.specs.declared.state.Load.{Load}
 use Rattle.first.specs.declared.state.Load.TheVariants.{Idle, Waiting, Answered}
 use Rattle.first.specs.declared.state.Action.TheVariants.{Wait}
 use Rattle.first.specs.declared.state.Open.{Open}
-use Rattle.first.specs.Step.{next, outputs}
 use Rattle.first.specs.Layout.{decode}
-use Rattle.first.specs.Model.{Model, taken, take_data, work_on, decide, act, loading, apply, model_next}
-use Rattle.first.specs.Model as model
+use Rattle.first.specs.Model.{Model, taken, work_on, decide, act, loading, apply, model_next}
 use Rattle.first.specs.Stands.{machine, Stands}
 use Rattle.first.proofs.ModelOf.{model_of}
 use Rattle.first.proofs.ClockModel.{clock_is, ClockIs}
@@ -38,7 +35,6 @@ use Rattle.first.proofs.Buffered.{row_evs, row_evs_length, final}
 use Rattle.first.proofs.Requested.{Tags, tags_count}
 use Rattle.first.proofs.Invariant.{asked_ev, Works, Inv}
 use Rattle.first.proofs.AnswerKept.{answer_kept}
-use Rattle.first.proofs.ClockKept.{clock_kept}
 use Rattle.first.proofs.AlwaysRight.{InvCore, invariant}
 use Rattle.first.proofs.Left.{AskedFor, Young, young_codes, young_datas}
 use Rattle.first.proofs.DataFalls.{Busy}

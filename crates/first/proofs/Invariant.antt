@@ -1,8 +1,8 @@
 -- What the first core keeps true of itself and of what was seen at its ports, in the middle of a clock too.
-use Rattle.std.proofs.Common.{◌≡◌, ℕ, ◌/◌, ◌<◌, ◌≤◌, Bool, true, false, List, [], ◌∷◌, ◌++◌, length}
+use Rattle.std.proofs.Common.{◌≡◌, ℕ, ◌/◌, ◌<◌, ◌≤◌, false, List, [], ◌∷◌, ◌++◌, length}
 use mathlib.Core.Option.{Option, some, none}
 use Rattle.isa.specs.Words.{pick}
-use Rattle.isa.specs.Manual.{Code, Mem, S, Ret, Ev, asks, device, stops, step, Run, run}
+use Rattle.isa.specs.Manual.{Code, Mem, S, Ret, Ev, asks, device, stops, step, run}
 use Rattle.isa.specs.Runs.{At}
 use Rattle.isa.specs.Executing.{work}
 use Rattle.isa.specs.declared.reg.Reg.{Reg}

@@ -1,10 +1,9 @@
 -- The load-store unit's rules are the model's.
-use Rattle.std.proofs.Common.{◌≡◌, ℕ, zero, suc, ◌+◌, ◌-◌, ◌%◌, ◌<◌, ◌≤◌, Bool, true, false, cond, ◌&&◌, eqb, ltb, List, [], ◌∷◌, ◌++◌, length, get_or, take, set, Some, None, Option, sym, refl, ap, ◌∙◌, subst, ap₂, arith, length-set}
+use Rattle.std.proofs.Common.{◌≡◌, ℕ, zero, suc, ◌-◌, ◌%◌, ◌<◌, ◌≤◌, Bool, true, false, cond, ◌&&◌, eqb, ltb, List, [], ◌∷◌, ◌++◌, length, get_or, take, set, Some, None, Option, sym, refl, ap, ◌∙◌, subst, ap₂, arith, length-set}
 use mathlib.Core.Option.{Option as Opt, some, none}
 use Rattle.std.proofs.lemmas.List.{length-take-le}
-use Rattle.std.proofs.lemmas.Bool.{eqb-true, eqb-false, ltb-true, ltb-false, lt-ltb, le-ltb}
+use Rattle.std.proofs.lemmas.Bool.{eqb-true, eqb-false, ltb-true, ltb-false}
 use Rattle.isa.specs.Words.{add}
-use Rattle.pins.specs.Ports.{Req, reads, writes1}
 use Rattle.pins.specs.PortWords.{optional, request_of}
 use Rattle.pins.specs.declared.ports.Request.{Request}
 use Rattle.pins.specs.declared.ports.Request.TheVariants.{Read, Write}
@@ -16,9 +15,9 @@ use Rattle.first.specs.declared.state.Load.{Load}
 use Rattle.first.specs.declared.state.Load.TheVariants.{Idle, Waiting, Answered}
 use Rattle.first.specs.declared.state.Lsu.{Lsu}
 use Rattle.first.specs.StoreRules.{no_store, entry, buffer_pop}
-use Rattle.first.specs.LsuRules.{open_at, open_push, open_pop, load_answered, lsu_answered, lsu_take, lsu_ask, lsu_room, drains, lsu_sent, lsu_drain, write_of, drain_request}
+use Rattle.first.specs.LsuRules.{open_at, open_push, open_pop, load_answered, lsu_answered, lsu_take, lsu_room, drains, lsu_sent, lsu_drain, write_of, drain_request}
 use Rattle.first.specs.Model.{Storing, answer_load, answer, take_data, drain_if, drain_one, drain}
-use Rattle.first.proofs.Tests.{clash, both_left, both_right, by_cond}
+use Rattle.first.proofs.Tests.{both_left, both_right, by_cond}
 use Rattle.first.proofs.Ring.{ring}
 use Rattle.first.proofs.ModelOf.{waiting, opened, storing, SizedStores, SizedRequests}
 use Rattle.first.proofs.StoreModel.{pop_is, pop_sized}

@@ -1,16 +1,16 @@
 -- In each clock in which nothing is done and the core has not stopped, its rank falls.
-use Rattle.std.proofs.Common.{◌≡◌, ℕ, zero, suc, ◌+◌, ◌-◌, ◌*◌, ◌<◌, ◌≤◌, Bool, true, false, ◌&&◌, List, [], ◌∷◌, ◌++◌, length, sym, refl, ap, ◌∙◌, subst, mul-le-mul_right, arith, length-append}
+use Rattle.std.proofs.Common.{◌≡◌, ℕ, zero, suc, ◌+◌, ◌*◌, ◌<◌, ◌≤◌, Bool, true, false, List, [], ◌∷◌, length, sym, refl, ap, ◌∙◌, subst, mul-le-mul_right, arith, length-append}
 use mathlib.Core.Option.{Option, some, none}
 use Rattle.isa.specs.Words.{opt}
-use Rattle.pins.specs.Ports.{In, Out}
+use Rattle.pins.specs.Ports.{In}
 use Rattle.pins.specs.View.{pop}
 use Rattle.pins.specs.Waits.{aged, age0}
 use Rattle.first.specs.declared.state.Action.{Action}
 use Rattle.first.specs.declared.state.Action.TheVariants.{Wait}
-use Rattle.first.specs.Model.{Fetching, Storing, Model, Did, took, took_use, take_code, take_data, taken, latched, work_on, decide, apply, drain, want, want_if, Clock, ending, model_next}
+use Rattle.first.specs.Model.{Fetching, Model, took, took_use, take_code, taken, latched, work_on, decide, apply, drain, want, want_if, Clock, ending, model_next}
 use Rattle.first.proofs.Left.{AskedFor, Young, left, left_most, left_some}
 use Rattle.first.proofs.CodeFalls.{code_rank, code_most, code_falls}
-use Rattle.first.proofs.DataFalls.{amount, data_rank, to_ask_most, less_open, drain_amount, Busy, Quiet, quiet, oldest_falls}
+use Rattle.first.proofs.DataFalls.{amount, data_rank, to_ask_most, less_open, drain_amount, Busy, quiet, oldest_falls}
 
 -- without a word the wait for code, and all that may follow; with one what its instruction waits for
 abbrev pub rank_of : ℕ → List ℕ → Model → List ℕ → List ℕ → ℕ

@@ -1,5 +1,5 @@
 -- The open requests: what each is for, beside what it will be answered with.
-use Rattle.std.proofs.Common.{◌≡◌, ℕ, suc, ◌/◌, List, [], ◌∷◌, ◌++◌, length, sym, refl, ap, ◌∙◌, subst, arith}
+use Rattle.std.proofs.Common.{◌≡◌, suc, List, [], ◌∷◌, ◌++◌, length, refl, ap}
 use Rattle.isa.specs.Manual.{Mem}
 use Rattle.pins.specs.Ports.{reads}
 use Rattle.pins.specs.Settled.{Due, any_word, from_device, that_word, due}

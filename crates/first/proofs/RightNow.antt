@@ -1,8 +1,8 @@
 -- Where the invariant holds, the ports are right.
-use Rattle.std.proofs.Common.{◌≡◌, ℕ, suc, ◌+◌, ◌/◌, ◌<◌, ◌≤◌, Bool, true, false, eqb, List, [], ◌∷◌, ◌++◌, length, sym, refl, ap, ◌∙◌, subst, append_assoc, append-nil, add-one, arith, length-append}
-use mathlib.Core.Option.{Option, some, none}
-use Rattle.isa.specs.Words.{pick, put}
-use Rattle.isa.specs.Manual.{Code, Mem, device, S, Ret, Ev, asks, Next, goes, stops, Run, run, step, asked, wrote, after1}
+use Rattle.std.proofs.Common.{◌≡◌, ℕ, suc, ◌+◌, ◌/◌, ◌<◌, ◌≤◌, Bool, true, false, List, [], ◌∷◌, ◌++◌, length, sym, refl, ap, ◌∙◌, subst, append_assoc, append-nil, add-one, arith, length-append}
+use mathlib.Core.Option.{some}
+use Rattle.isa.specs.Words.{pick}
+use Rattle.isa.specs.Manual.{Code, Mem, device, S, Ret, Ev, asks, stops, Run, run, asked, wrote, after1}
 use Rattle.isa.specs.Runs.{At, more_answers}
 use Rattle.isa.specs.Executing.{work, enact}
 use Rattle.isa.specs.declared.reg.Reg.{Reg}

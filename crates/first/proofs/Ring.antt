@@ -1,5 +1,5 @@
 -- A ring of eight, as the list of what it holds from its begin on.
-use Rattle.std.proofs.Common.{◌≡◌, ℕ, zero, suc, ◌+◌, ◌%◌, ◌<◌, ◌≤◌, List, [], ◌∷◌, ◌++◌, length, get_or, set, sym, refl, ap, ◌∙◌, arith, get_or-set_other, get_or-set_same}
+use Rattle.std.proofs.Common.{◌≡◌, ℕ, zero, suc, ◌+◌, ◌%◌, ◌<◌, List, [], ◌∷◌, ◌++◌, length, get_or, set, refl, ap, ◌∙◌, arith, get_or-set_other, get_or-set_same}
 
 -- n elements of xs from place h on, around the circle; d stands for what is not there
 abbrev pub ring : {A : Type 0} → A → List A → ℕ → ℕ → List A

@@ -1,14 +1,14 @@
 -- A waiting store gets the request port in time, however many loads go on: after each load's answer the port is free.
-use Rattle.std.proofs.Common.{◌≡◌, ℕ, zero, suc, ◌+◌, ◌-◌, ◌*◌, ◌/◌, ◌<◌, ◌≤◌, Bool, true, false, ◌&&◌, ltb, List, [], ◌∷◌, ◌++◌, length, sym, refl, ap, ◌∙◌, subst, arith, length-append}
+use Rattle.std.proofs.Common.{◌≡◌, ℕ, suc, ◌+◌, ◌*◌, ◌<◌, ◌≤◌, Bool, true, false, ltb, List, [], ◌∷◌, length, sym, refl, ap, subst, arith, length-append}
 use mathlib.Core.Option.{Option, some, none}
 use Rattle.std.proofs.lemmas.Bool.{ltb-true, ltb-false, lt-ltb, le-ltb}
 use Rattle.isa.specs.Words.{pick, opt}
 use Rattle.isa.specs.Executing.{work}
 use Rattle.isa.specs.declared.execute.Outcome.{Outcome}
 use Rattle.isa.specs.declared.execute.Outcome.TheVariants.{Write as Writes, Jump as Jumps, Load as Loads, Store as Stores, Halt as Halts}
-use Rattle.pins.specs.Ports.{In, Req, writes1}
+use Rattle.pins.specs.Ports.{In, Req}
 use Rattle.pins.specs.Outside.{ev_of}
-use Rattle.pins.specs.View.{pop, push}
+use Rattle.pins.specs.View.{pop}
 use Rattle.pins.specs.Waits.{aged, age0}
 use Rattle.first.specs.declared.state.Store.{Store}
 use Rattle.first.specs.declared.state.Open.{Open}
@@ -17,8 +17,8 @@ use Rattle.first.specs.declared.state.Load.{Load}
 use Rattle.first.specs.declared.state.Load.TheVariants.{Idle, Waiting, Answered}
 use Rattle.first.specs.declared.state.Action.{Action}
 use Rattle.first.specs.declared.state.Action.TheVariants.{Wait, Halt, Write, Jump, Push, Ask}
-use Rattle.first.specs.Model.{Storing, Model, Did, answer, answer_load, take_data, taken, if_drained, loading, act, work_on, decide, apply, drain, drain_one, drain_if, Drained, Clock, model_next}
-use Rattle.first.proofs.Left.{AskedFor, Young, older, left, left_most}
+use Rattle.first.specs.Model.{Storing, Model, Did, answer, answer_load, take_data, taken, if_drained, loading, act, work_on, decide, apply, drain, drain_one, drain_if, Drained, model_next}
+use Rattle.first.proofs.Left.{AskedFor, Young, left, left_most}
 use Rattle.first.proofs.DataFalls.{Some, oldest_falls}
 use Rattle.first.proofs.RankFalls.{Bounded}
 

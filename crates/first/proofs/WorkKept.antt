@@ -1,9 +1,9 @@
 -- The rule of the instruction at work keeps the invariant.
-use Rattle.std.proofs.Common.{◌≡◌, ℕ, suc, ◌+◌, ◌/◌, ◌<◌, ◌≤◌, Bool, true, false, ◌&&◌, eqb, ltb, List, [], ◌∷◌, ◌++◌, length, sym, refl, ap, ◌∙◌, subst, append_assoc, append-nil, arith, length-append}
+use Rattle.std.proofs.Common.{◌≡◌, ℕ, suc, ◌/◌, ◌<◌, ◌≤◌, Bool, true, false, eqb, ltb, List, [], ◌∷◌, ◌++◌, length, sym, refl, ap, ◌∙◌, subst, append_assoc, append-nil, arith, length-append}
 use mathlib.Core.Option.{Option, some, none}
 use Rattle.std.proofs.lemmas.Bool.{ltb-true, eqb-true}
 use Rattle.isa.specs.Words.{pick, add, opt, put}
-use Rattle.isa.specs.Manual.{Code, Mem, device, S, Ret, Ev, writes, asks, Next, goes, stops, Run, run, step, asked, wrote, after1}
+use Rattle.isa.specs.Manual.{Code, Mem, device, S, Ret, Ev, writes, asks, goes, run, step, asked, wrote, after1}
 use Rattle.isa.specs.Runs.{At}
 use Rattle.isa.specs.Traces.{effect}
 use Rattle.isa.specs.Executing.{work, enact, how}
@@ -14,7 +14,7 @@ use Rattle.isa.specs.declared.execute.Outcome.{Outcome}
 use Rattle.isa.specs.declared.execute.Outcome.TheVariants.{Write as Writes, Jump as Jumps, Load as Loads, Store as Stores, Halt as Halts}
 use Rattle.isa.proofs.Does.{step_is}
 use Rattle.isa.proofs.RunSteps.{at_suc, rets_suc, evs_suc}
-use Rattle.pins.specs.Ports.{Req, reads, writes1}
+use Rattle.pins.specs.Ports.{reads}
 use Rattle.pins.specs.Says.{first}
 use Rattle.pins.specs.View.{View, ask_data}
 use Rattle.pins.specs.View as view
@@ -25,14 +25,13 @@ use Rattle.first.specs.declared.state.Open.{Open}
 use Rattle.first.specs.declared.state.Open.TheVariants.{Load as ForLoad}
 use Rattle.first.specs.declared.state.Load.{Load}
 use Rattle.first.specs.declared.state.Load.TheVariants.{Idle, Waiting, Answered}
-use Rattle.first.specs.declared.state.Action.{Action}
-use Rattle.first.specs.declared.state.Action.TheVariants.{Wait, Halt, Write, Jump, Push, Ask}
+use Rattle.first.specs.declared.state.Action.TheVariants.{Wait, Halt, Write, Push, Ask}
 use Rattle.first.specs.Model.{Fetching, Model, lookup, if_drained, loading, act, work_on, decide, Did, retired, apply}
 use Rattle.first.proofs.Tests.{clash}
 use Rattle.first.proofs.Fetched.{refetch_kept, at_word}
-use Rattle.first.proofs.Buffered.{write_ev, row_evs, row_evs_snoc, final, final_push, final_ask, lookup_right}
+use Rattle.first.proofs.Buffered.{row_evs, row_evs_snoc, final, final_push, final_ask, lookup_right}
 use Rattle.first.proofs.Requested.{Acks, Tags, tags_count, acks_load}
-use Rattle.first.proofs.Invariant.{unread, asked_ev, stands_at, Works, Halts as HaltsAt, Runs, Inv}
+use Rattle.first.proofs.Invariant.{asked_ev, stands_at, Halts as HaltsAt, Runs, Inv}
 
 -- the view after what was done
 abbrev pub did_view : Did → View → View

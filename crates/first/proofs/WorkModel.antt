@@ -1,8 +1,6 @@
 -- The instruction at work does what the model's does.
-use Rattle.std.proofs.Common.{◌≡◌, ℕ, zero, suc, ◌+◌, ◌-◌, ◌%◌, ◌<◌, ◌≤◌, Bool, true, false, cond, ◌&&◌, eqb, ltb, List, [], ◌∷◌, ◌++◌, length, get_or, take, Some, None, Option, sym, refl, ap, ◌∙◌, subst, ap₂, arith}
-use mathlib.Core.Option.{Option as Opt, some, none}
+use Rattle.std.proofs.Common.{◌≡◌, ℕ, zero, suc, Bool, true, false, cond, ◌&&◌, eqb, ltb, List, length, get_or, Some, None, Option, sym, refl, ap, ◌∙◌, ap₂, arith}
 use lib.Dec.{eqb-suc-zero}
-use Rattle.std.proofs.lemmas.Bool.{ltb-true}
 use Rattle.isa.specs.Words.{add, pick, opt}
 use Rattle.isa.specs.Manual.{device}
 use Rattle.isa.specs.Executing.{work}
@@ -10,20 +8,17 @@ use Rattle.isa.specs.declared.reg.Reg.{Reg}
 use Rattle.isa.specs.declared.execute.Stop.{Stop}
 use Rattle.isa.specs.declared.execute.Outcome.{Outcome}
 use Rattle.isa.specs.declared.execute.Outcome.TheVariants.{Write as Writes, Jump as Jumps, Load as Loads, Store as Stores, Halt as Halts}
-use Rattle.pins.specs.PortWords.{plain, stop_word, request_of, done_list}
+use Rattle.pins.specs.PortWords.{plain, stop_word}
 use Rattle.first.specs.declared.state.Store.{Store}
-use Rattle.first.specs.declared.state.StoreBuffer.{StoreBuffer}
 use Rattle.first.specs.declared.state.Load.{Load}
 use Rattle.first.specs.declared.state.Load.TheVariants.{Idle, Waiting, Answered}
 use Rattle.first.specs.declared.state.Core.{Core}
 use Rattle.first.specs.declared.state.Action.{Action}
-use Rattle.first.specs.declared.state.Action.TheVariants.{Wait, Halt, Write, Jump, Push, Ask}
+use Rattle.first.specs.declared.state.Action.TheVariants.{Wait, Halt, Write, Push, Ask}
 use Rattle.first.specs.StoreRules.{no_store, forwarded}
-use Rattle.first.specs.LsuRules.{lsu_room}
 use Rattle.first.specs.WorkRules.{no_stores, ask_device, forward_or_ask, load_action, outcome_action, word_action, action_unless, is_some, action}
 use Rattle.first.specs.Model.{Model, lookup, if_drained, loading, work_on, decide}
 use Rattle.first.specs.Model as M
-use Rattle.first.proofs.Tests.{both_left, both_right}
 use Rattle.first.proofs.Ring.{ring}
 use Rattle.first.proofs.ModelOf.{waiting, opened, kept, model_of, Sized}
 use Rattle.first.proofs.FetchModel.{head_is}

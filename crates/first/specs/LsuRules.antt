@@ -1,8 +1,8 @@
 -- The load-store unit's rules.
-use Rattle.std.specs.Prelude.{ℕ, ◌+◌, ◌-◌, ◌%◌, Bool, true, false, cond, ◌&&◌, List, [], ◌∷◌, replicate, Some, None, Option, ◌==◌, nat_lt, slice_index_or, slice_set}
+use Rattle.std.specs.Prelude.{ℕ, ◌-◌, ◌%◌, Bool, cond, ◌&&◌, [], ◌∷◌, replicate, Some, None, Option, ◌==◌, nat_lt, slice_index_or, slice_set}
 use Rattle.isa.specs.Words.{add}
 use Rattle.pins.specs.declared.ports.Request.{Request}
-use Rattle.pins.specs.declared.ports.Request.TheVariants.{Read, Write}
+use Rattle.pins.specs.declared.ports.Request.TheVariants.{Write}
 use Rattle.first.specs.declared.state.Store.{Store}
 use Rattle.first.specs.declared.state.Open.{Open}
 use Rattle.first.specs.declared.state.Open.TheVariants.{Acknowledgment, Load as ForLoad}

@@ -1,5 +1,5 @@
 -- One clock of the first core: its rules, one after the other.
-use Rattle.std.specs.Prelude.{ℕ, Bool, true, false, cond, Option}
+use Rattle.std.specs.Prelude.{ℕ, Option}
 use Rattle.pins.specs.declared.ports.Inputs.{Inputs}
 use Rattle.pins.specs.declared.ports.Outputs.{Outputs}
 use Rattle.pins.specs.declared.ports.Request.{Request}

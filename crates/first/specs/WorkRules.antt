@@ -1,5 +1,5 @@
 -- The instruction at work: what it does in a clock is decided first, and then done.
-use Rattle.std.specs.Prelude.{ℕ, ◌+◌, ◌-◌, ◌%◌, Bool, true, false, cond, ◌&&◌, List, [], ◌∷◌, Some, None, Option, ◌==◌, nat_lt}
+use Rattle.std.specs.Prelude.{ℕ, Bool, true, false, cond, ◌&&◌, Some, None, Option, ◌==◌, nat_lt}
 use Rattle.isa.specs.Words.{add, put, pick}
 use Rattle.isa.specs.Manual.{device}
 use Rattle.isa.specs.Executing.{work}
@@ -8,16 +8,11 @@ use Rattle.isa.specs.declared.reg.Reg.{Reg}
 use Rattle.isa.specs.declared.regs.Regs.{Regs}
 use Rattle.isa.specs.declared.execute.Outcome.{Outcome}
 use Rattle.isa.specs.declared.execute.Outcome.TheVariants.{Write as Writes, Jump as Jumps, Load as Loads, Store as Stores, Halt as Halts}
-use Rattle.pins.specs.declared.ports.Request.{Request}
 use Rattle.pins.specs.declared.ports.Request.TheVariants.{Read}
-use Rattle.pins.specs.declared.ports.Retired.{Retired}
-use Rattle.pins.specs.PortWords.{done_none, done_one, no_retired}
+use Rattle.pins.specs.PortWords.{done_none, done_one}
 use Rattle.first.specs.declared.state.Load.{Load}
 use Rattle.first.specs.declared.state.Load.TheVariants.{Idle, Waiting, Answered}
 use Rattle.first.specs.declared.state.Lsu.{Lsu}
-use Rattle.first.specs.declared.state.Fetch.{Fetch}
-use Rattle.first.specs.declared.state.Number.{Number}
-use Rattle.first.specs.declared.state.Store.{Store}
 use Rattle.first.specs.declared.state.StoreBuffer.{StoreBuffer}
 use Rattle.first.specs.declared.state.Core.{Core}
 use Rattle.first.specs.declared.state.Action.{Action}

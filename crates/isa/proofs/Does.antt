@@ -1,5 +1,5 @@
 -- What an instruction does in the manual is what its outcome does.
-use Rattle.std.proofs.Common.{◌≡◌, ℕ, ◌*◌, ◌/◌, ◌%◌, Bool, true, false, ◌&&◌, eqb, List, Some, None, Option, sym, refl, ap, ◌∙◌, ap₂, arith}
+use Rattle.std.proofs.Common.{◌≡◌, ℕ, ◌*◌, ◌/◌, ◌%◌, Bool, true, false, ◌&&◌, eqb, List, Option, sym, refl, ap, ◌∙◌, ap₂, arith}
 use Rattle.isa.specs.Words.{pick, opt, add}
 use Rattle.isa.specs.Manual.{Code, S, Next, stops, f_op, f_rd, f_3, f_1, f_2, f_7, imm_b, imm_i, imm_j, imm_s, ok_i, ok_r, alu, muls, branch, reg, to, jumped, wrote, after1, does, step}
 use Rattle.isa.specs.declared.instr.AluOp.{AluOp}

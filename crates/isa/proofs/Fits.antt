@@ -1,10 +1,10 @@
 -- What is worked out from words is a word.
-use Rattle.std.proofs.Common.{◌≡◌, ℕ, ◌+◌, ◌-◌, ◌*◌, ◌/◌, ◌%◌, ◌^◌, ◌<◌, ◌≤◌, Bool, true, false, eqb, ltb, ◌⊎◌, sym, refl, ap, ◌∙◌, subst, inl, inr, div-le_self, arith}
+use Rattle.std.proofs.Common.{ℕ, ◌%◌, ◌^◌, ◌<◌, ◌≤◌, Bool, true, false, ltb, ◌⊎◌, sym, subst, inl, inr, div-le_self, arith}
 use native.Mathlib.Nat.{mod-le}
-use lib.Bits.{bit_and, bit_or, bit_xor, and_le_l, or_lt, xor_lt}
+use lib.Bits.{and_le_l, or_lt, xor_lt}
 use Rattle.std.proofs.lemmas.Nat.{shr_le, mul-lt}
 use Rattle.std.proofs.lemmas.Bool.{cases_lt}
-use Rattle.isa.specs.Words.{bit, add, sub, shl, shr, and_w, or_w, xor_w}
+use Rattle.isa.specs.Words.{bit}
 use Rattle.isa.specs.Manual.{less_s, sar}
 use Rattle.isa.specs.declared.instr.AluOp.{AluOp}
 use Rattle.isa.specs.declared.instr.AluOp.TheVariants.{Add, Sub, Sll, Slt, Sltu, Xor, Srl, Sra, Or, And}

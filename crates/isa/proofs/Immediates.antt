@@ -1,5 +1,5 @@
 -- The numbers in an instruction word, put together by shifts and masks.
-use Rattle.std.proofs.Common.{◌≡◌, ℕ, ◌+◌, ◌-◌, ◌*◌, ◌/◌, ◌%◌, ◌^◌, ◌<◌, ◌≤◌, ltb, sym, refl, ap, ◌∙◌, subst, ap₂, arith}
+use Rattle.std.proofs.Common.{◌≡◌, ℕ, ◌+◌, ◌-◌, ◌*◌, ◌/◌, ◌%◌, ◌^◌, ◌<◌, ◌≤◌, sym, ap, ◌∙◌, arith}
 use lib.Bits.{bit_and, bit_or, and_mask, and_high, or_shifted}
 use Rattle.std.proofs.lemmas.Nat.{div-add-mod', shr-shr, field_of}
 use Rattle.std.proofs.lemmas.Bool.{lt-ltb, le-ltb}

@@ -1,5 +1,5 @@
 -- An instruction word taken apart: what `decode` answers.
-use Rattle.std.specs.Prelude.{ℕ, Bool, true, false, ◌&&◌, ◌||◌, Some, None, Option, ◌==◌}
+use Rattle.std.specs.Prelude.{ℕ, Bool, ◌&&◌, Some, None, Option, ◌==◌}
 use Rattle.isa.specs.Words.{pick}
 use Rattle.isa.specs.Manual.{f_op, f_3, f_7, imm_i, imm_s, imm_b, imm_u, imm_j, ok_i, ok_r}
 use Rattle.isa.specs.Registers.{rd_of, rs1_of, rs2_of}

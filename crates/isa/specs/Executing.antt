@@ -1,5 +1,5 @@
 -- What one instruction does at its operands, and what the manual's state is then.
-use Rattle.std.specs.Prelude.{◌≡◌, ℕ, ◌*◌, ◌/◌, ◌%◌, Bool, true, false, List, Some, None, Option, ◌==◌}
+use Rattle.std.specs.Prelude.{◌≡◌, ℕ, ◌*◌, ◌/◌, ◌%◌, Bool, false, List, Some, None, Option, ◌==◌}
 use Rattle.isa.specs.Words.{pick, opt, add}
 use Rattle.isa.specs.Manual.{Code, S, Next, stops, alu, muls, branch, wrote, jumped, asked, saved, device, after1, does, step}
 use Rattle.isa.specs.Registers.{reg_of, value_in}

@@ -1,5 +1,5 @@
 -- What the RISC-V manual says, one step an instruction: RV32I without bytes, half words and fences, and mul, mulhu, divu, remu of M; code in a memory of its own, data below 2^31, devices from there on.
-use Rattle.std.specs.Prelude.{ℕ, zero, suc, ◌+◌, ◌-◌, ◌*◌, ◌/◌, ◌%◌, ◌^◌, Bool, true, false, not, ◌&&◌, ◌||◌, List, [], ◌∷◌, ◌++◌, ◌==◌, nat_le, nat_lt}
+use Rattle.std.specs.Prelude.{ℕ, zero, suc, ◌+◌, ◌*◌, ◌/◌, ◌%◌, Bool, true, not, ◌&&◌, ◌||◌, List, [], ◌∷◌, ◌++◌, ◌==◌, nat_le, nat_lt}
 use Rattle.std.proofs.Math.Option.{Option, some, none}
 use Rattle.isa.specs.Words.{pick, opt, nth, put, all, bit, and_w, or_w, xor_w, add, sub, mul, shl, shr, up, signed}
 

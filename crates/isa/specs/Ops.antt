@@ -1,8 +1,5 @@
 -- What the operations of instructions mean, by the manual's definitions.
 use Rattle.std.specs.Prelude.{ℕ, Bool, true, false}
-use Rattle.std.proofs.Math.Option.{Option, some, none}
-use Rattle.isa.specs.Words.{opt}
-use Rattle.isa.specs.Manual.{alu, muls, branch}
 use Rattle.isa.specs.declared.instr.AluOp.{AluOp}
 use Rattle.isa.specs.declared.instr.AluOp.TheVariants.{Add, Sub, Sll, Slt, Sltu, Xor, Srl, Sra, Or, And}
 use Rattle.isa.specs.declared.instr.MulOp.{MulOp}

@@ -1,6 +1,6 @@
 -- The words at the ports, read by the definitions of the ports, are what the outputs show.
-use Rattle.std.proofs.Common.{◌≡◌, ℕ, zero, suc, ◌+◌, ◌≤◌, min, Bool, true, false, ◌&&◌, leb, List, [], ◌∷◌, length, get_or, Some, None, Option, refl, ap, ◌∙◌, ap₂, arith}
-use mathlib.Core.Option.{Option as Opt, some, none}
+use Rattle.std.proofs.Common.{◌≡◌, ℕ, zero, suc, ◌≤◌, min, Bool, true, ◌&&◌, leb, List, [], get_or, Some, None, Option, refl, ap₂, arith}
+use mathlib.Core.Option.{Option as Opt}
 use Rattle.std.proofs.lemmas.Bool.{le-leb}
 use Rattle.isa.specs.Manual.{Ret}
 use Rattle.isa.proofs.Lists.{nth_get_d}

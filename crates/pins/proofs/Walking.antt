@@ -1,6 +1,6 @@
 -- The walkthrough, by computing.
 use Rattle.std.proofs.Common.{◌≡◌, ℕ, [], refl, arith}
-use mathlib.Core.Option.{some, none}
+use mathlib.Core.Option.{some}
 use Rattle.pins.specs.Outside.{stopped}
 use Rattle.pins.specs.Says.{Right, none_yet, and_so}
 use Rattle.pins.specs.Walkthrough.{code, sevens, history, Walked}

@@ -1,10 +1,10 @@
 -- Worked examples: a loop, a device written and read, data written and read back; single stops; a clock at the ports; two clocks of the outside.
-use Rattle.std.specs.Prelude.{◌≡◌, ℕ, zero, suc, List, [], ◌∷◌, ◌++◌}
-use Rattle.std.proofs.Math.Option.{Option, some, none}
+use Rattle.std.specs.Prelude.{◌≡◌, ℕ, List, [], ◌∷◌}
+use Rattle.std.proofs.Math.Option.{some, none}
 use Rattle.isa.specs.Words.{opt, nth}
-use Rattle.isa.specs.Manual.{Code, Mem, S, Ret, Ev, writes, asks, Next, goes, stops, Run, run, muls}
-use Rattle.pins.specs.Ports.{In, Out, Req, reads, writes1, in_of, out_of, sound_out}
-use Rattle.pins.specs.Outside.{Io, Hist, O, outside, rets, evs, Want}
+use Rattle.isa.specs.Manual.{Code, Mem, Ret, writes, asks, stops, Run, run, muls}
+use Rattle.pins.specs.Ports.{writes1, out_of}
+use Rattle.pins.specs.Outside.{Hist, outside, evs}
 use Rattle.pins.specs.Says.{first}
 
 -- code that has these words at 0 and onward, and noughts behind them

@@ -1,7 +1,7 @@
 -- The outside: memories and devices that answer in order, after any time.
-use Rattle.std.specs.Prelude.{◌≡◌, ℕ, zero, suc, ◌+◌, ◌*◌, ◌/◌, ◌%◌, ◌<◌, ◌≤◌, max, Bool, true, false, not, ◌&&◌, ◌||◌, List, [], ◌∷◌, ◌++◌, length, nat_le}
+use Rattle.std.specs.Prelude.{◌≡◌, ℕ, ◌+◌, ◌/◌, ◌<◌, Bool, true, false, ◌&&◌, List, [], ◌∷◌, ◌++◌, nat_le}
 use Rattle.std.proofs.Math.Option.{Option, some, none}
-use Rattle.isa.specs.Words.{pick, opt}
+use Rattle.isa.specs.Words.{pick}
 use Rattle.isa.specs.Manual.{Code, Mem, store, device, Ret, Ev, writes, asks}
 use Rattle.pins.specs.Ports.{In, Out, Req, reads, writes1}
 

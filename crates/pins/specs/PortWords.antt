@@ -1,5 +1,5 @@
 -- The code's inputs and outputs as the ports' words, and as what the ports show.
-use Rattle.std.specs.Prelude.{◌≡◌, ℕ, zero, suc, ◌+◌, min, Bool, true, false, ◌&&◌, ◌||◌, List, [], ◌∷◌, ◌++◌, length, get_or, replicate, Some, None, Option, ◌==◌, nat_le, slice_index, slice_index_or}
+use Rattle.std.specs.Prelude.{◌≡◌, ℕ, zero, suc, ◌+◌, min, Bool, true, false, ◌&&◌, ◌||◌, List, [], ◌∷◌, length, get_or, replicate, Some, None, Option, ◌==◌, nat_le, slice_index, slice_index_or}
 use Rattle.std.proofs.Math.Option.{Option as Opt, some, none}
 use Rattle.isa.specs.Manual.{Ret}
 use Rattle.isa.specs.Executing.{how}

@@ -1,5 +1,5 @@
 -- One clock at the ports.
-use Rattle.std.specs.Prelude.{ℕ, zero, suc, ◌+◌, ◌*◌, Bool, true, false, not, ◌&&◌, ◌||◌, List, [], ◌∷◌, ◌++◌, length, drop, ◌==◌, nat_le}
+use Rattle.std.specs.Prelude.{ℕ, zero, suc, Bool, ◌&&◌, List, [], ◌∷◌, length, drop, ◌==◌, nat_le}
 use Rattle.std.proofs.Math.Option.{Option, some, none}
 use Rattle.isa.specs.Words.{pick, opt, nth}
 use Rattle.isa.specs.Manual.{Ret}

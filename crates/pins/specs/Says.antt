@@ -1,13 +1,13 @@
 -- What a core promises at its ports, as types, and what the public calls promise.
-use Rattle.std.specs.Prelude.{◌≡◌, ℕ, zero, suc, ◌+◌, ◌*◌, ◌<◌, ◌≤◌, Bool, true, false, ◌⊎◌, ◌↔◌, List, [], ◌∷◌, ◌++◌, length, replicate, ◌≢◌}
-use Rattle.std.proofs.Math.Option.{Option, some, none}
+use Rattle.std.specs.Prelude.{◌≡◌, ℕ, suc, ◌+◌, ◌*◌, ◌<◌, ◌≤◌, true, ◌⊎◌, ◌↔◌, List, [], ◌∷◌, ◌++◌, length, replicate, ◌≢◌}
+use Rattle.std.proofs.Math.Option.{some}
 use Rattle.pins.specs.declared.Started.{Started}
 use Rattle.pins.specs.declared.Started.TheVariants.{Ready, Few}
 use Rattle.pins.specs.declared.Clocked.{Clocked}
 use Rattle.pins.specs.declared.Clocked.TheVariants.{Done, NoCore, NoPorts}
-use Rattle.isa.specs.Manual.{Code, Mem, S, Ret, Ev, Next, stops, Run, run}
-use Rattle.pins.specs.Ports.{In, Out, in_of, out_of, sound_out}
-use Rattle.pins.specs.Outside.{Io, Hist, O, Want, Wish, outside, RightIn, Prompt, rets, evs, stopped}
+use Rattle.isa.specs.Manual.{Code, Mem, S, stops, Run, run}
+use Rattle.pins.specs.Ports.{in_of, out_of, sound_out}
+use Rattle.pins.specs.Outside.{Hist, outside, RightIn, Prompt, rets, evs, stopped}
 
 -- where the manual begins: registers 0, data as they may be at first, at the start's address
 abbrev pub first : ℕ → Mem → List ℕ → S

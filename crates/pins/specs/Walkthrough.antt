@@ -2,7 +2,7 @@
 use Rattle.std.specs.Prelude.{◌≡◌, ℕ, List, [], ◌∷◌, take}
 use Rattle.std.proofs.Math.Option.{Option, some, none}
 use Rattle.isa.specs.Words.{opt, nth}
-use Rattle.isa.specs.Manual.{Code, Mem, Ret, Ev, writes}
+use Rattle.isa.specs.Manual.{Code, Mem, Ret, writes}
 use Rattle.pins.specs.Ports.{Req, reads, writes1}
 use Rattle.pins.specs.Outside.{Io, Hist, outside}
 use Rattle.pins.specs.Says.{Right}

@@ -1,17 +1,16 @@
 -- The request port and fetching, on the datapath's arrays, are the machine's on the lists.
-use Rattle.std.proofs.Common.{◌≡◌, ℕ, ◌<◌, ◌≤◌, Bool, true, false, cond, not, ◌&&◌, ltb, leb, List, length, Some, None, Option, sym, refl, ap, ◌∙◌, subst, arith}
+use Rattle.std.proofs.Common.{◌≡◌, ℕ, ◌<◌, Bool, true, false, cond, not, ◌&&◌, ltb, leb, length, Some, None, Option, sym, refl, ap, ◌∙◌, subst}
 use mathlib.Core.Option.{Option as Opt, some, none}
 use Rattle.std.proofs.lemmas.Bool.{ltb-true, leb-false, lt-ltb, le-ltb, leb-true}
 use Rattle.isa.specs.Words.{pick, add}
-use Rattle.pins.specs.Ports.{Req}
 use Rattle.pins.specs.PortWords.{plain, request_of}
 use Rattle.pins.specs.declared.ports.Request.{Request}
 use Rattle.window.specs.declared.datapath.Datapath.{Datapath}
 use Rattle.window.specs.Machine.{Core, Asked, next_pc}
 use Rattle.window.specs.Machine as rules
-use Rattle.window.specs.Clocks.{Port, leaves, loads, drains, asks_device, request, request_if, room, fetch_if, fetch_room, want}
+use Rattle.window.specs.Clocks.{drains, request, request_if, room, fetch_if, fetch_room, want}
 use Rattle.window.specs.Rings.{size}
-use Rattle.window.specs.Datapaths.{lists, SizedDatapath, next_pc_of, wanted}
+use Rattle.window.specs.Datapaths.{next_pc_of, wanted}
 use Rattle.window.specs.Retiring.{drained, drain_request}
 use Rattle.window.proofs.DatapathList.{datapath_laws}
 use Rattle.window.proofs.RetiringList.{retiring_laws}

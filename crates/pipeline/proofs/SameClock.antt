@@ -1,22 +1,16 @@
 -- The pipeline's clock is the machine's at its schedule.
-use Rattle.std.proofs.Common.{◌≡◌, ℕ, Bool, not, ltb, List, [], ◌∷◌, ◌++◌, length, Some, None, Option, sym, refl, ap, ◌∙◌, subst}
-use mathlib.Core.Option.{Option as Opt, some, none}
-use Rattle.isa.specs.Words.{pick, add}
-use Rattle.isa.specs.Manual.{Code, Mem, Ret}
-use Rattle.pins.specs.Ports.{In, Out}
-use Rattle.pins.specs.Outside.{Hist, RightIn}
-use Rattle.pins.specs.Reach.{Reach}
-use Rattle.pins.specs.PortWords.{inputs_of, plain, stop_word, request_of, done_list, shown}
+use Rattle.std.proofs.Common.{◌≡◌, not, List, [], ◌∷◌, ◌++◌, length, Some, None, Option, sym, refl, ap, ◌∙◌, subst}
+use Rattle.isa.specs.Words.{pick}
+use Rattle.pins.specs.Ports.{In}
+use Rattle.pins.specs.PortWords.{inputs_of, done_list, shown}
 use Rattle.pins.specs.declared.ports.Inputs.{Inputs}
 use Rattle.pins.specs.declared.ports.Retired.{Retired}
-use Rattle.window.specs.declared.datapath.Datapath.{Datapath}
-use Rattle.window.specs.Machine.{Core, learn, read_left, read_right, execute, forward, retire, next_pc, halted}
+use Rattle.window.specs.Machine.{Core, learn, read_left, read_right, execute, forward, retire, halted}
 use Rattle.window.specs.Clocks.{Move, drains, move, answered, request_if, room, want, State, machine as window_machine, ruled}
 use Rattle.window.specs.Clocks as clocks
 use Rattle.window.specs.Datapaths.{lists, SizedDatapath}
 use Rattle.window.specs.Retiring.{done, rets_of}
-use Rattle.window.specs.Asking.{halts}
-use Rattle.window.specs.Refining.{SameClock, RefinesWith}
+use Rattle.window.specs.Refining.{RefinesWith}
 use Rattle.window.proofs.DatapathList.{datapath_laws}
 use Rattle.window.proofs.RetiringList.{retiring_laws}
 use Rattle.window.proofs.AskingList.{asking_laws}
@@ -24,7 +18,7 @@ use Rattle.pipeline.specs.declared.state.Core.{Core as Pipeline}
 use Rattle.pipeline.specs.declared.stages.Ask.{Ask}
 use Rattle.pipeline.specs.Stages.{ask_of}
 use Rattle.pipeline.specs.Step.{done_of, heard, wrote, ask, staged, posted, port_request, fetch_stage, fetch_want, store_goes, next, outputs}
-use Rattle.pipeline.specs.Schedule.{Tables, tables, at_memory, at_execute, at_read, the_entry, redirect_move, ask_port, schedule}
+use Rattle.pipeline.specs.Schedule.{tables, at_memory, at_execute, at_read, the_entry, redirect_move, ask_port, schedule}
 use Rattle.pipeline.specs.Stands.{machine, window_of}
 use Rattle.pipeline.proofs.Staged.{Is, code_is, data_is, retire_is, memory_is, ask_is, redirect_rets, execute_is, read_is}
 use Rattle.pipeline.proofs.AtPort.{Asks, port_is, turn_is, Fetches, fetch_is}

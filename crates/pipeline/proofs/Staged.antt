@@ -1,22 +1,18 @@
 -- Each stage, on the datapath's arrays, is the machine's rule on the lists that they stand for.
-use Rattle.std.proofs.Common.{◌≡◌, ℕ, ◌<◌, ◌≤◌, Bool, true, false, cond, not, ◌&&◌, ltb, leb, List, [], ◌∷◌, ◌++◌, length, Some, None, Option, sym, refl, ap, ◌∙◌, subst}
+use Rattle.std.proofs.Common.{◌≡◌, ℕ, [], Some, None, Option, refl, ap, ◌∙◌, subst}
 use mathlib.Core.Option.{Option as Opt, some, none}
-use Rattle.isa.specs.Words.{pick, nth, add}
-use Rattle.isa.specs.Manual.{Ret}
-use Rattle.pins.specs.Ports.{In}
 use Rattle.pins.specs.PortWords.{optional}
 use Rattle.window.specs.declared.entry.Entry.{Entry}
 use Rattle.window.specs.declared.datapath.Datapath.{Datapath}
 use Rattle.window.specs.Entries.{given}
 use Rattle.window.specs.Machine.{Core, learn, read_left, read_right, execute, forward, retire}
-use Rattle.window.specs.Clocks.{Move, rest, redirects, move, answer_code, answer_data}
-use Rattle.window.specs.Rings.{entry_at, items}
-use Rattle.window.specs.Datapaths.{lists, SizedDatapath, left_for, right_for, outcome_for, forward_for, ruled, code_taken, data_taken, redirected}
+use Rattle.window.specs.Clocks.{rest, redirects, move, answer_code, answer_data}
+use Rattle.window.specs.Rings.{entry_at}
+use Rattle.window.specs.Datapaths.{lists, SizedDatapath, left_for, right_for, outcome_for, forward_for, ruled, redirected}
 use Rattle.window.specs.Retiring.{retired}
 use Rattle.window.proofs.DatapathList.{datapath_laws}
 use Rattle.window.proofs.RetiringList.{retiring_laws}
 use Rattle.window.proofs.RingList.{ring_laws}
-use Rattle.pipeline.specs.declared.stages.Ask.{Ask}
 use Rattle.pipeline.specs.declared.stages.Stage.TheVariants.{Read, Execute, Memory}
 use Rattle.pipeline.specs.Stages.{at_stage, ask_of, ask_at}
 use Rattle.pipeline.specs.Step.{code_in, data_in, memory_stage, memory_ask, mispredicted, redirect_by, executed, execute_stage, read_stage}

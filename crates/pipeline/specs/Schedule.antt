@@ -1,6 +1,6 @@
 -- The pipeline as a schedule of the general machine: the stages from the last to the first, so that in a clock an instruction passes at
 -- most one of them. Writing; memory; executing, where a wrong prediction is put right; reading registers.
-use Rattle.std.specs.Prelude.{ℕ, ◌+◌, Bool, true, false, not, List, [], ◌∷◌, length, Option, nat_lt}
+use Rattle.std.specs.Prelude.{ℕ, ◌+◌, Bool, false, not, List, [], ◌∷◌, length, Option, nat_lt}
 use Rattle.std.proofs.Math.Option.{some, none}
 use Rattle.isa.specs.Words.{pick, nth, add}
 use Rattle.pins.specs.PortWords.{optional}
@@ -9,7 +9,7 @@ use Rattle.window.specs.Entries.{given}
 use Rattle.window.specs.Machine.{Core, next_pc}
 use Rattle.window.specs.Fairness.{load_open}
 use Rattle.window.specs.Rings.{size}
-use Rattle.window.specs.Clocks.{Move, rest, reads_left, reads_right, executes, forwards, redirects, retires, Port, leaves, loads, drains, asks_device, room, Schedule, State}
+use Rattle.window.specs.Clocks.{Move, rest, reads_left, reads_right, executes, forwards, redirects, retires, Port, leaves, loads, drains, asks_device, room, Schedule}
 use Rattle.pipeline.specs.declared.stages.Ask.{Ask}
 use Rattle.pipeline.specs.declared.stages.Ask.TheVariants.{Nothing, Load, Device}
 use Rattle.pipeline.specs.Stages.{waits, lacks_operand, lacks_outcome, ask_of}

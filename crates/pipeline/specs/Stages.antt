@@ -1,5 +1,5 @@
 -- Where the stages' instructions stand in the window, and what the memory stage wants of the request port.
-use Rattle.std.specs.Prelude.{ℕ, zero, suc, ◌+◌, Bool, true, false, not, ◌&&◌, ◌||◌, List, [], ◌∷◌, Some, None, Option, ◌==◌, nat_lt, slice_index_or}
+use Rattle.std.specs.Prelude.{ℕ, zero, suc, ◌+◌, Bool, true, false, not, ◌&&◌, ◌||◌, Option, ◌==◌, nat_lt, slice_index_or}
 use Rattle.isa.specs.Words.{pick}
 use Rattle.isa.specs.Manual.{device}
 use Rattle.isa.specs.declared.execute.Outcome.{Outcome}

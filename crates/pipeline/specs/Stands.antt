@@ -1,5 +1,4 @@
 -- The pipeline as a machine of its own, and the general machine's state that its arrays stand for.
-use Rattle.std.specs.Prelude.{ℕ, Bool}
 use Rattle.pins.specs.PortWords.{inputs_of, shown}
 use Rattle.pins.specs.Reach.{Mealy}
 use Rattle.window.specs.Datapaths.{lists}

@@ -1,6 +1,6 @@
 -- One clock of the pipeline: its rules, one after the other.
 use Rattle.std.specs.Prelude.{ℕ, Bool, true, false, cond, not, ◌&&◌, ◌||◌, Some, None, Option, ◌==◌, nat_le, nat_lt}
-use Rattle.isa.specs.Words.{pick, add}
+use Rattle.isa.specs.Words.{add}
 use Rattle.isa.specs.declared.execute.Outcome.{Outcome}
 use Rattle.isa.specs.declared.execute.Outcome.TheVariants.{Write as Writes, Jump as Jumps, Load as Loads, Store as Stores, Halt as Halts}
 use Rattle.pins.specs.PortWords.{done_none, done_one}

@@ -1,5 +1,5 @@
 -- The history of a run, step by step.
-use Rattle.std.proofs.Common.{◌≡◌, ℕ, suc, ◌+◌, ◌-◌, ◌<◌, ◌≤◌, true, false, List, [], ◌∷◌, ◌++◌, is_err, Ok, Err, Option, Result, sym, ap, ◌∙◌, subst, true≢false, add-one, arith}
+use Rattle.std.proofs.Common.{◌≡◌, ℕ, suc, ◌+◌, ◌-◌, ◌<◌, ◌≤◌, true, List, [], ◌∷◌, ◌++◌, is_err, Ok, Err, Option, Result, sym, ap, ◌∙◌, subst, true≢false, add-one, arith}
 use Rattle.isa.specs.Manual.{Code, S, Next, goes, stops, step, Run, run}
 use Rattle.isa.specs.Runs.{At, with_step}
 use Rattle.isa.proofs.RunSteps.{at_zero, at_suc, rets_suc, evs_suc, run_laws}

@@ -18,7 +18,6 @@ use Rattle.window.specs.declared.entry.Source.{Source}
 use Rattle.window.specs.declared.entry.Source.TheVariants.{Unknown, Memory, Forwarded}
 use Rattle.window.specs.declared.datapath.Datapath.{Datapath}
 use Rattle.window.specs.Entries.{given, number}
-use Rattle.window.specs.Newest.{source}
 use Rattle.window.specs.Machine.{with_requests, Asked, nothing_asked, ask_from, ask_outcome, ask_load, device_if, device_outcome, device_oldest, ask_device, halts_if, halts_outcome, halts_oldest, halted}
 use Rattle.window.specs.Rings.{items, waiting}
 use Rattle.window.specs.Queues.{request_pushed, wants}

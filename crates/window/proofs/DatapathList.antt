@@ -1,5 +1,5 @@
 -- The datapath's rules are the machine's on its lists.
-use Rattle.std.proofs.Common.{◌≡◌, ℕ, suc, ◌+◌, ◌-◌, ◌/◌, ◌<◌, List, [], ◌∷◌, ◌++◌, take, replicate, Some, None, Option, sym, refl, ap, ◌∙◌, arith}
+use Rattle.std.proofs.Common.{◌≡◌, ℕ, suc, ◌/◌, ◌<◌, List, [], ◌∷◌, ◌++◌, take, replicate, Some, None, Option, sym, refl, ap, ◌∙◌, arith}
 use mathlib.Core.Option.{Option as Opt, some, none}
 use Rattle.isa.specs.Words.{pick, opt, nth, add}
 use Rattle.isa.specs.Manual.{device}
@@ -15,7 +15,7 @@ use Rattle.window.specs.declared.ring.Ring.{Ring}
 use Rattle.window.specs.declared.datapath.Datapath.{Datapath}
 use Rattle.window.specs.Entries.{given, number, fresh, with_predicted, with_word, with_left, with_right, with_loaded}
 use Rattle.window.specs.Operands.{left_register, right_register}
-use Rattle.window.specs.Machine.{Core, with_window, with_requests, with_fetches, learn, read_left, read_right, execute, forwarded, forward_outcome, forward, kept, retags, renumbers, redirect, device_answered, get_data, take_data, get_code, take_code, next_pc, fetch}
+use Rattle.window.specs.Machine.{Core, with_window, with_requests, with_fetches, learn, read_left, read_right, execute, forwarded, forward_outcome, forward, kept, retags, renumbers, redirect, device_answered, get_data, take_data, get_code, take_code, fetch}
 use Rattle.window.specs.Rings.{size, entry, entry_at, put_at, cut_to, items, rest, Sized}
 use Rattle.window.specs.Queues.{request_oldest, request_popped, fetch_oldest, fetch_popped, tags, wants}
 use Rattle.window.specs.Datapaths.{left_for, right_for, outcome_for, forward_by, forward_for, ruled, with_wants, with_tags, with_reading, code_for, code_taken, data_for, data_taken, redirect_to, redirected, next_pc_of, wanted, lists, SizedDatapath, DatapathLaws}

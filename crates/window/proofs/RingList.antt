@@ -1,5 +1,5 @@
 -- The ring's methods are the machine's rules on the list of its entries.
-use Rattle.std.proofs.Common.{◌≡◌, ℕ, zero, suc, ◌+◌, ◌-◌, ◌/◌, ◌<◌, ◌≤◌, Bool, true, false, cond, eqb, List, [], ◌∷◌, ◌++◌, length, get_or, take, Some, None, Option, sym, refl, ap, ◌∙◌, add-one, sub-one, arith, length-set}
+use Rattle.std.proofs.Common.{◌≡◌, ℕ, zero, suc, ◌-◌, ◌/◌, ◌<◌, ◌≤◌, Bool, true, false, cond, eqb, List, [], ◌∷◌, ◌++◌, length, get_or, take, Some, None, Option, sym, refl, ap, ◌∙◌, add-one, sub-one, arith, length-set}
 use mathlib.Core.Option.{Option as Opt, some, none}
 use Rattle.isa.specs.Words.{pick, opt, nth, put}
 use Rattle.isa.specs.Manual.{device}
@@ -13,7 +13,7 @@ use Rattle.window.specs.declared.entry.Source.TheVariants.{Unknown, Forwarded}
 use Rattle.window.specs.declared.ring.Ring.{Ring}
 use Rattle.window.specs.Entries.{given}
 use Rattle.window.specs.Operands.{written_register, may_store}
-use Rattle.window.specs.Newest.{sweep, after_outcome, after_word, over_register, newest, source_outcome, source_word, over_memory, source}
+use Rattle.window.specs.Newest.{sweep, after_outcome, after_word, over_register, newest, source_outcome, source_word, over_memory}
 use Rattle.window.specs.Machine.{Core, with_window, learn, tip}
 use Rattle.window.specs.Scans.{hits_outcome, hits_word, hits, leaves_outcome, leaves, stored, decides_word, decides}
 use Rattle.window.specs.Rings.{around, size, no_entry, slot, entry, pushed, popped, cut_to, put_at, entry_at, writer_below, operand_by, operand, store_below, buffer_source, items, rest, Sized, RingLaws}

@@ -1,5 +1,5 @@
 -- What a rule can come to, each case once: for whatever is to be shown of it.
-use Rattle.std.proofs.Common.{◌≡◌, ℕ, ◌+◌, ◌/◌, ◌≤◌, Bool, true, false, ltb, List, [], ◌∷◌, ◌++◌, length, Some, Option, refl, arith, length-append, ltb-true}
+use Rattle.std.proofs.Common.{◌≡◌, ℕ, ◌/◌, ◌≤◌, Bool, true, false, ltb, List, [], ◌∷◌, ◌++◌, length, Some, Option, refl, arith, length-append, ltb-true}
 use mathlib.Core.Option.{some}
 use Rattle.isa.specs.Words.{nth, put, add}
 use Rattle.isa.specs.Manual.{Ret, device}

@@ -1,6 +1,6 @@
-use Rattle.std.proofs.Common.{◌≡◌, ◌-◌, ◌<◌, true, false, sym, refl, ◌∙◌, arith, rules}
-use Rattle.first.specs.StoreRules.{newest, here}
-use Rattle.first.proofs.Newest.{below_none, below_found, below_next}
+use Rattle.std.proofs.Common.{sym, refl, ◌∙◌, arith}
+use Rattle.first.specs.StoreRules.{newest}
+use Rattle.first.proofs.Newest.{below_found, below_next}
 use Rattle.first.proofs.state.StoreBuffer.newest.Goals as goal
 
 pub search-init : goal.search-init

@@ -1,5 +1,4 @@
-use Rattle.std.proofs.Common.{◌≡◌, sym, ap, ◌∙◌, rules}
-use Rattle.pins.specs.declared.ports.Inputs.{Inputs}
+use Rattle.std.proofs.Common.{sym, ap, ◌∙◌, rules}
 use Rattle.pins.specs.PortWords.{optional}
 use Rattle.pins.proofs.AtPorts.{code_is, data_is}
 use Rattle.pins.proofs.ports.Inputs.read.Goals as goal

@@ -1,4 +1,4 @@
-use Rattle.std.proofs.Common.{◌≡◌, ℕ, sym, ap, ◌∙◌, arith}
+use Rattle.std.proofs.Common.{ℕ, sym, ap, ◌∙◌, arith}
 use Rattle.window.specs.Rings.{entry}
 use Rattle.pipeline.specs.Stages.{stands}
 use Rattle.pipeline.proofs.Searches.{found, first_on, first_here}
