@@ -42,7 +42,7 @@ def spelled(name):
     if name in CHOSEN:
         return CHOSEN[name]
     if name[0].isupper():
-        return "".join(part[:1].upper() + part[1:] for part in name.split("-"))
+        return "".join(part[:1].upper() + part[1:] for part in re.split("[-_]", name))
     words = name.replace("-", "_")
     words = re.sub(r"([a-z0-9])([A-Z])", lambda m: m.group(1) + "_" + m.group(2).lower(), words)
     return words.replace("′", "'")

@@ -4,7 +4,7 @@ use Rattle.std.proofs.Math.Option.{some, none}
 use Rattle.isa.specs.Manual.{Code, Mem}
 use Rattle.pins.specs.Ports.{In, Out}
 use Rattle.pins.specs.Outside.{Hist, O, after, outside, RightIn, ev_of, evs, stopped}
-use Rattle.pins.specs.Says.{here, Goes_on}
+use Rattle.pins.specs.Says.{here, GoesOn}
 use Rattle.pins.specs.Waits.{Calm}
 use Rattle.pins.specs.Reach.{Mealy, clock_io, Reach, Stands}
 
@@ -81,5 +81,5 @@ pub record ProgressLaws (State : Type 0) : Type 0 where
   pub goes_on : (k : Mealy State) (decode : List ℕ → Option State) (rank : ℕ → State → O → ℕ) (owed : State → ℕ) (drain_rank : ℕ → State → O → ℕ → ℕ)
       → Retires k rank
       → Drains k owed drain_rank
-      → Goes_on (Stands k decode)
+      → GoesOn (Stands k decode)
   pub each : (k : Mealy State) (owed : State → ℕ) (rank : ℕ → State → O → ℕ) → DrainsEach k owed rank → Drains k owed (rank_each rank)

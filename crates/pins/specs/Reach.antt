@@ -76,7 +76,7 @@ pub record Invariant {State : Type 0} (k : Mealy State) (Inv : Code → Mem → 
       → Inv c m a (k.next s i) (clock_view (clock_io k s i) v)
   pub right : (c : Code) (m : Mem) (a : ℕ) (s : State) (v : View) → Inv c m a s v → RightView c m a v
 
--- (It speaks of every predicate, so that no function's contract can name it: each core's own does, which has Always-right by it.)
+-- (It speaks of every predicate, so that no function's contract can name it: each core's own does, which has AlwaysRight by it.)
 pub record InvariantLaws {State : Type 0} (k : Mealy State) (Inv : Code → Mem → ℕ → State → View → Type 0) : Type 0 where
   pub holds : {c : Code} {m : Mem} {a : ℕ} {h : Hist} {s : State} → Reach k c m a h s → Inv c m a s (view m h)
   pub always_right : (decode : List ℕ → Option State) → AlwaysRight (Stands k decode)

@@ -43,8 +43,8 @@ module _ (Stands : Code → Mem → ℕ → Hist → List ℕ → Type 0) where
   AlwaysRight = (c : Code) (m : Mem) (a : ℕ) (h : Hist) (w : List ℕ) → Stands c m a h w → Right c m a h
 
   -- it goes on: with answers within l clocks, in any 64 and 16 l clocks an instruction is done, or it has stopped; and what was still to be asked at their beginning has been asked
-  abbrev pub Goes_on : Type 0
-  Goes_on = (c : Code) (m : Mem) (a l : ℕ) (h g : Hist) (w : List ℕ) → Stands c m a (h ++ g) w → Prompt l m (h ++ g) → 64 + 16 * l ≤ length g → ((length (rets h) < length (rets (h ++ g))) ⊎ ((k : ℕ) × (stopped (h ++ g) ≡ some k))) × (length (here c m a h).evs ≤ length (evs (h ++ g)))
+  abbrev pub GoesOn : Type 0
+  GoesOn = (c : Code) (m : Mem) (a l : ℕ) (h g : Hist) (w : List ℕ) → Stands c m a (h ++ g) w → Prompt l m (h ++ g) → 64 + 16 * l ≤ length g → ((length (rets h) < length (rets (h ++ g))) ⊎ ((k : ℕ) × (stopped (h ++ g) ≡ some k))) × (length (here c m a h).evs ≤ length (evs (h ++ g)))
 
   -- `start`: the address, the core's words before and after
   abbrev pub StartedSays : ℕ → List ℕ → List ℕ → Started → Type 0
@@ -55,7 +55,7 @@ module _ (Stands : Code → Mem → ℕ → Hist → List ℕ → Type 0) where
     pub says : StartedSays a w w' r
     -- what the core's Stands has to meet, with the promise of each call
     pub right : AlwaysRight
-    pub goes_on : Goes_on
+    pub goes_on : GoesOn
     pub few : (length w < 65536) ↔ (r ≡ Few)
 
   -- `clock`: the core's words before and after, four words in, twenty out before and after
@@ -67,4 +67,4 @@ module _ (Stands : Code → Mem → ℕ → Hist → List ℕ → Type 0) where
   pub record ClockedPost (w w' i o o' : List ℕ) (r : Clocked) : Type 0 where
     pub says : ClockedSays w w' i o o' r
     pub right : AlwaysRight
-    pub goes_on : Goes_on
+    pub goes_on : GoesOn

@@ -21,7 +21,7 @@ use Rattle.window.specs.Clocks.{answer_code, answer_data}
 use Rattle.window.proofs.Cases.{some_none}
 use Rattle.window.proofs.Lines.{Reaches, predictions}
 use Rattle.window.proofs.Claims.{Each, Head, each_head, each_push, each_map, Request, Fetch, request_map}
-use Rattle.window.proofs.Held.{LoadsWord, Is_at, addresses, addresses_append, addresses_length, held_push}
+use Rattle.window.proofs.Held.{LoadsWord, IsAt, addresses, addresses_append, addresses_length, held_push}
 use Rattle.window.proofs.Invariant.{Seen, code_taken, data_taken, wanted, device_tags, readings, base, stand, Inv}
 use Rattle.window.proofs.LearnKept.{learn_kept}
 
@@ -116,7 +116,7 @@ module _ (c : Code) (m : Mem) (a : ℕ) where
       by (d ∷ ds) e r = data_by k v x k.requests d ds refl e h r (each_head (rw e at h.held.datas))
 
   -- code
-  wants_left : (k : Core) (v : Seen) (fs : List (Option Number)) (qs : List ℕ) → Inv c m a k v → Each (Fetch (Is_at (addresses k.window))) fs qs
+  wants_left : (k : Core) (v : Seen) (fs : List (Option Number)) (qs : List ℕ) → Inv c m a k v → Each (Fetch (IsAt (addresses k.window))) fs qs
       → Inv c m a (with_fetches k fs) (record { codes = qs; dues = v.dues; mem = v.mem; told = v.told; rets = v.rets; evs = v.evs })
   wants_left k v fs qs h o = record {
     runs = record { at = h.runs.at; done = h.runs.done; did = h.runs.did; size = h.runs.size };
@@ -130,7 +130,7 @@ module _ (c : Code) (m : Mem) (a : ℕ) where
   nth_address (d ∷ es) zero e at q = let same : d ≡ e = cc in let z : d.pc ≡ _ = cc in sym z ∙ ap (λ (y : Entry). y.pc) same
   nth_address (d ∷ es) (suc n) e at q = nth_address es n e at q
 
-  code_got : (k : Core) (v : Seen) (n x b : ℕ) → Inv c m a k v → x ≡ c (b / 4) → Is_at (addresses k.window) n b → Inv c m a (learn (get_code x) n k) v
+  code_got : (k : Core) (v : Seen) (n x b : ℕ) → Inv c m a k v → x ≡ c (b / 4) → IsAt (addresses k.window) n b → Inv c m a (learn (get_code x) n k) v
   code_got k v n x b h e p = learn_kept c m a k v h (get_code x) n (λ d at. record {
     predicted = refl;
     pc = refl;
@@ -145,7 +145,7 @@ module _ (c : Code) (m : Mem) (a : ℕ) where
   })
 
   code_by : (k : Core) (v : Seen) (x b : ℕ) (fs : List (Option Number)) (qs : List ℕ) → v.codes ≡ b ∷ qs → Inv c m a k v → x ≡ c (b / 4)
-      → Head (Fetch (Is_at (addresses k.window))) fs b qs → Inv c m a (take_code x k fs) (code_taken v (some x))
+      → Head (Fetch (IsAt (addresses k.window))) fs b qs → Inv c m a (take_code x k fs) (code_taken v (some x))
   code_by k v x b [] qs e h r o = absurd o
   code_by k v x b (None ∷ fs) qs e h r (p, o) = rw e (wants_left k v fs qs h o)
   code_by k v x b (Some n ∷ fs) qs e h r (p, o) = rw e (code_got (with_fetches k fs) _ n.0 x b (wants_left k v fs qs h o) r p)

@@ -23,8 +23,8 @@ pub record LoadsWord (c : Code) (stands : List ℕ → S) (gs : List ℕ) (n x :
       → (device a ≡ false) × (x ≡ v.mem (a / 4))
 
 -- the n-th instruction is at a
-abbrev pub Is_at : List ℕ → ℕ → ℕ → Type 0
-Is_at ps n a = nth ps n ≡ some a
+abbrev pub IsAt : List ℕ → ℕ → ℕ → Type 0
+IsAt ps n a = nth ps n ≡ some a
 
 abbrev pub addresses : List Entry → List ℕ
 addresses [] = []
@@ -33,7 +33,7 @@ addresses (e ∷ es) = e.pc ∷ addresses es
 pub record Held (c : Code) (stands : List ℕ → S) (es : List Entry) (ts : List Tag) (ds : List Due) (fs : List (Option Number)) (qs : List ℕ) : Type 0 where
   pub line : (zs : List ℕ) → Line c (stands zs) es
   pub datas : Each (Request (LoadsWord c stands (predictions es))) ts ds
-  pub codes : Each (Fetch (Is_at (addresses es))) fs qs
+  pub codes : Each (Fetch (IsAt (addresses es))) fs qs
 
 -- lists
 pub nth_inside : {A : Type 0} (xs : List A) (n : ℕ) {x : A} → nth xs n ≡ some x → n < length xs
@@ -146,7 +146,7 @@ module _ {c : Code} {stands : List ℕ → S} {es : List Entry} {ts : List Tag} 
         is = rw (take_split (predictions es) n k d.predicted i l) p.is;
       })
 
-  at_redirect : (k a j : ℕ) → (k ≡ j) × (k < suc n) → Is_at (addresses es) k a → Is_at (addresses (take n es ++ (d ∷ []))) j a
+  at_redirect : (k a j : ℕ) → (k ≡ j) × (k < suc n) → IsAt (addresses es) k a → IsAt (addresses (take n es ++ (d ∷ []))) j a
   at_redirect k a j (q, l) p = rw (← q, redirected_addresses) (nth_split (addresses es) n k e.pc d.pc a (nth_addresses es n e at) pc l p)
 
   pub held_redirect : ((zs : List ℕ) (v : S) → Reaches c (stands zs) (take n (predictions es)) v → Agrees c v d)
@@ -167,7 +167,7 @@ module _ (c : Code) (before now : List ℕ → S) (e : Entry) (es : List Entry)
       by : LoadsWord c before (predictions (e ∷ es)) (suc j) x → LoadsWord c now (predictions es) j x
       by p = let i = p.inside in record { inside = omega arith; is = λ zs v r. p.is zs v (now zs, (w zs).0, (w zs).1, (w zs).2, (w zs).3, r) }
 
-  at_pop : (k a j : ℕ) → k ≡ suc j → Is_at (addresses (e ∷ es)) k a → Is_at (addresses es) j a
+  at_pop : (k a j : ℕ) → k ≡ suc j → IsAt (addresses (e ∷ es)) k a → IsAt (addresses es) j a
   at_pop k a j q p = rw q at p
 
   pub held_pop : {ts : List Tag} {ds : List Due} {fs : List (Option Number)} {qs : List ℕ} → Held c before (e ∷ es) ts ds fs qs

@@ -3,8 +3,8 @@
 --
 -- What a core with a window has to show:
 --   a `Schedule` over tables of its own (T: predictors, counters, whatever else), whose clock its code's clock is;
---   for Always-right nothing more (`Right.antt`);
---   for Goes-on that the schedule is `Fair` (`Fairness.antt`).
+--   for AlwaysRight nothing more (`Right.antt`);
+--   for GoesOn that the schedule is `Fair` (`Fairness.antt`).
 use Rattle.std.specs.Prelude.{ℕ, Bool, true, false, List, [], ◌∷◌, ◌++◌, length, nat_lt}
 use Rattle.std.proofs.Math.Option.{Option as Opt, some, none}
 use Rattle.isa.specs.Manual.{Ret}

@@ -4,7 +4,7 @@
 --   work: how many clocks it still needs to execute the oldest, once its word is there (at most 38: a divider fits);
 --   late: how many clocks it still holds the oldest up, once its outcome is known (at most 7: pipeline stages);
 --   turns: how many other uses of the request port may come before a waiting store has its turn (at most 5).
--- In every clock, `Fair-clock` has to hold. Nothing is asked of younger instructions, of predictions, or of redirects.
+-- In every clock, `FairClock` has to hold. Nothing is asked of younger instructions, of predictions, or of redirects.
 use Rattle.std.specs.Prelude.{◌≡◌, ℕ, ◌/◌, ◌<◌, ◌≤◌, Bool, true, false, not, ◌&&◌, ◌||◌, ◌⊎◌, List, [], ◌∷◌, map, length, Some, None, Option, ◌==◌, nat_lt}
 use Rattle.std.proofs.Math.Option.{some}
 use Rattle.isa.specs.Manual.{Code, Mem, device}
@@ -13,7 +13,7 @@ use Rattle.isa.specs.declared.execute.Outcome.{Outcome}
 use Rattle.isa.specs.declared.execute.Outcome.TheVariants.{Write as Writes, Jump as Jumps, Load as Loads, Store as Stores, Halt as Halts}
 use Rattle.pins.specs.Ports.{In}
 use Rattle.pins.specs.Outside.{Hist, RightIn}
-use Rattle.pins.specs.Says.{Goes_on}
+use Rattle.pins.specs.Says.{GoesOn}
 use Rattle.pins.specs.Reach.{Reach, Stands}
 use Rattle.window.specs.declared.entry.Entry.{Entry}
 use Rattle.window.specs.declared.entry.Tag.{Tag}
@@ -114,4 +114,4 @@ pub record Fair {T : Type 0} (s : Schedule T) : Type 0 where
   pub clocks : (c : Code) (m : Mem) (a : ℕ) (h : Hist) (z : State T) (i : In) → Reach (machine s) c m a h z → RightIn c m h i → FairClock s work late turns z i
 
 abbrev pub WindowGoesOn : Type 0 → Type 0
-WindowGoesOn T = (s : Schedule T) → Fair s → (decode : List ℕ → Option (State T)) → Goes_on (Stands (machine s) decode)
+WindowGoesOn T = (s : Schedule T) → Fair s → (decode : List ℕ → Option (State T)) → GoesOn (Stands (machine s) decode)

@@ -3,7 +3,7 @@ use Rattle.std.specs.Prelude.{◌≡◌, ℕ, List, Some, None, Option}
 use Rattle.isa.specs.Manual.{Code, Mem}
 use Rattle.pins.specs.Ports.{In}
 use Rattle.pins.specs.Outside.{Hist, RightIn}
-use Rattle.pins.specs.Says.{AlwaysRight, Goes_on}
+use Rattle.pins.specs.Says.{AlwaysRight, GoesOn}
 use Rattle.pins.specs.Reach.{Mealy, Reach, Stands}
 
 -- one clock of both, from states that are the same
@@ -30,8 +30,8 @@ pub record RefineLaws (A B : Type 0) : Type 0 where
       → AlwaysRight (Stands j (λ w. read_as of (decode w)))
       → AlwaysRight (Stands k decode)
   pub goes_on : (k : Mealy A) (j : Mealy B) (of : A → B) (decode : List ℕ → Option A) → Refines k j of
-      → Goes_on (Stands j (λ w. read_as of (decode w)))
-      → Goes_on (Stands k decode)
+      → GoesOn (Stands j (λ w. read_as of (decode w)))
+      → GoesOn (Stands k decode)
 
 -- how it is shown: with what the core keeps true of itself besides (sizes of its arrays), and with all that is proved of the machine at hand.
 -- (It speaks of every predicate, so that no function's contract can name it: each core's own does.)
