@@ -1,4 +1,7 @@
 // Why a program can't go on.
+ghost use Rattle.std.specs.Prelude.{◌≡◌, IsErr, IsOk};
+ghost use Rattle.std.specs.Process.{exit_status};
+
 use sim::error::WorldError;
 use std::alloc::{AllocError, AllocFailed};
 use std::process::ExitCode;
@@ -58,7 +61,9 @@ impl fmt::Display for Failure {
 }
 
 // Prints why a program ends with an error, if it does, and hands it on.
-pub fn report(rt: &HostRuntime, name: &str, res: Result<(), Failure>) -> Result<(), Failure> {
+pub fn report(rt: &HostRuntime, name: &str, res: Result<(), Failure>) -> Result<(), Failure>
+    ensures { result ≡ res }
+{
     match &res {
         Ok(()) | Err(Failure::Shown) => {}
         Err(failure) => {
@@ -69,7 +74,10 @@ pub fn report(rt: &HostRuntime, name: &str, res: Result<(), Failure>) -> Result<
 }
 
 // The same, and how the program ends: 0, or 1 after an error.
-pub fn exit_code(rt: &HostRuntime, name: &str, res: Result<(), Failure>) -> ExitCode {
+pub fn exit_code(rt: &HostRuntime, name: &str, res: Result<(), Failure>) -> ExitCode
+    ensures ok { IsOk res → exit_status result ≡ 0 }
+    ensures err { IsErr res → exit_status result ≡ 1 }
+{
     match report(rt, name, res) {
         Ok(()) => ExitCode::SUCCESS,
         Err(_) => ExitCode::FAILURE,
