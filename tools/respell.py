@@ -10,10 +10,9 @@ import glob
 import re
 import sys
 
-# What one token may not hold.
+# A name, or any other text between what no name holds.
 TOKEN = re.compile(r"[^\s(){}\[\].,;:\"|⌜⌝`]+")
 DECLARED = re.compile(r"^\s*(?:(?:abbrev|unfoldable|pub|record|data)\s+)*([^\s(){}.,;:\"]+)\s+(?:[^=:]*\s)?:\s")
-CLAUSE = re.compile(r"^\s*(?:(?:abbrev|unfoldable|pub)\s+)*([^\s(){}.,;:\"]+)\b")
 IMPORT = re.compile(r"^\s*(?:pub |ghost )*use ([^\s{]+?)\.?\{([^}]*)\}")
 
 # Names that would otherwise fall together with another, or read badly.
@@ -49,6 +48,7 @@ def spelled(name):
 
 
 def is_code(path):
+    """Whether the file answers goals, whose names the toolchain makes."""
     return path.endswith("/Answers.antt") or path.endswith("/Invariants.antt") or path.endswith("/Proof.antt")
 
 
