@@ -1,7 +1,7 @@
 // From an instruction to its word.
 #![tactic(auto)]
 
-ghost use Rattle.std.specs.Prelude.{◌≡◌, true, IfSome, Some};
+ghost use Rattle.std.specs.Prelude.{◌≡◌, IfSome, Some};
 ghost use Rattle.isa.specs.Decoding.{decodes};
 
 use isa::decode::decode;
@@ -13,138 +13,11 @@ pub fn encode(instr: Instr) -> Option<u32>
     ensures { IfSome result (λ w. decodes w ≡ Some instr) }
 {
     let word = build(instr);
-    let decoded = decode(word)?;
-    if same(decoded, instr) {
+    if decode(word)? == instr {
         Some(word)
     } else {
         None
     }
-}
-
-// Whether two instructions are equal.
-fn same(a: Instr, b: Instr) -> bool
-    ensures { result ≡ true → a ≡ b }
-{
-    match a {
-        Instr::Lui { rd, imm } => match b {
-            Instr::Lui { rd: r, imm: i } => same_reg(rd, r) && imm == i,
-            _ => false,
-        },
-        Instr::Auipc { rd, imm } => match b {
-            Instr::Auipc { rd: r, imm: i } => same_reg(rd, r) && imm == i,
-            _ => false,
-        },
-        Instr::Jal { rd, offset } => match b {
-            Instr::Jal { rd: r, offset: i } => same_reg(rd, r) && offset == i,
-            _ => false,
-        },
-        Instr::Ecall => matches!(b, Instr::Ecall),
-        Instr::AluImm { .. } | Instr::AluReg { .. } | Instr::MulDiv { .. } => same_operation(a, b),
-        Instr::Jalr { .. } | Instr::Load { .. } | Instr::Store { .. } => same_access(a, b),
-        Instr::Branch { .. } => same_branch(a, b),
-    }
-}
-
-// The same of operations.
-fn same_operation(a: Instr, b: Instr) -> bool
-    ensures { result ≡ true → a ≡ b }
-{
-    match a {
-        Instr::AluImm { op, rd, rs1, imm } => match b {
-            Instr::AluImm {
-                op: o,
-                rd: r,
-                rs1: s,
-                imm: i,
-            } => op == o && same_reg(rd, r) && same_reg(rs1, s) && imm == i,
-            _ => false,
-        },
-        Instr::AluReg { op, rd, rs1, rs2 } => match b {
-            Instr::AluReg {
-                op: o,
-                rd: r,
-                rs1: s,
-                rs2: t,
-            } => op == o && same_reg(rd, r) && same_reg(rs1, s) && same_reg(rs2, t),
-            _ => false,
-        },
-        Instr::MulDiv { op, rd, rs1, rs2 } => match b {
-            Instr::MulDiv {
-                op: o,
-                rd: r,
-                rs1: s,
-                rs2: t,
-            } => op == o && same_reg(rd, r) && same_reg(rs1, s) && same_reg(rs2, t),
-            _ => false,
-        },
-        _ => false,
-    }
-}
-
-// The same of jumps by a register, loads and stores.
-fn same_access(a: Instr, b: Instr) -> bool
-    ensures { result ≡ true → a ≡ b }
-{
-    match a {
-        Instr::Jalr { rd, rs1, offset: i } => match b {
-            Instr::Jalr {
-                rd: r,
-                rs1: s,
-                offset,
-            } => same_reg(rd, r) && same_reg(rs1, s) && offset == i,
-            _ => false,
-        },
-        Instr::Load { rd, rs1, offset: i } => match b {
-            Instr::Load {
-                rd: r,
-                rs1: s,
-                offset,
-            } => same_reg(rd, r) && same_reg(rs1, s) && offset == i,
-            _ => false,
-        },
-        Instr::Store {
-            rs1,
-            rs2,
-            offset: i,
-        } => match b {
-            Instr::Store {
-                rs1: r,
-                rs2: s,
-                offset,
-            } => same_reg(rs1, r) && same_reg(rs2, s) && offset == i,
-            _ => false,
-        },
-        _ => false,
-    }
-}
-
-// The same of branches.
-fn same_branch(a: Instr, b: Instr) -> bool
-    ensures { result ≡ true → a ≡ b }
-{
-    match a {
-        Instr::Branch {
-            cond,
-            rs1,
-            rs2,
-            offset: i,
-        } => match b {
-            Instr::Branch {
-                cond: c,
-                rs1: r,
-                rs2: s,
-                offset,
-            } => cond == c && same_reg(rs1, r) && same_reg(rs2, s) && offset == i,
-            _ => false,
-        },
-        _ => false,
-    }
-}
-
-fn same_reg(a: Reg, b: Reg) -> bool
-    ensures { result ≡ true → a ≡ b }
-{
-    a.number == b.number
 }
 
 // The word, if the immediate or offset fits.

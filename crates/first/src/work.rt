@@ -5,13 +5,11 @@ ghost use Rattle.first.specs.Step.{next, outputs};
 ghost use Rattle.first.specs.StoreRules.{forwarded};
 
 use crate::state::{Action, Core, Effect, Fetch, Load, Lsu, Number, Store};
+use isa::devices::DEVICES;
 use isa::execute::{Outcome, perform};
 use isa::reg::Reg;
 use isa::regs::Regs;
 use pins::ports::{Done, Inputs, Outputs, Request, Retired};
-
-// Devices from here on; data below.
-const DEVICES: u32 = 0x8000_0000;
 
 impl Core {
     // A core to which nothing has happened yet.

@@ -1,8 +1,8 @@
 // What a run of the core leaves behind.
 use crate::expected::Expected;
+use isa::devices::DEVICES;
 use isa::execute::Stop;
 use pins::ports::Retired;
-use reference::machine::DEVICES;
 use reference::memory::Memory;
 use reference::trace::Effect;
 use std::alloc::Global;

@@ -10,7 +10,7 @@ use crate::reg::Reg;
 use crate::regs::Regs;
 
 // Why it stops: ecall, no instruction, an address that is not a multiple of 4.
-#[derive(Clone, Copy)]
+#[derive(Clone, Copy, PartialEq, Eq)]
 pub enum Stop {
     EnvCall,
     Illegal,
@@ -31,7 +31,7 @@ impl Stop {
 }
 
 // What an instruction does: writes a register and goes on at `next`; goes on at `next`; loads; stores; stops.
-#[derive(Clone, Copy)]
+#[derive(Clone, Copy, PartialEq, Eq)]
 pub enum Outcome {
     Write { rd: Reg, value: u32, next: u32 },
     Jump { next: u32 },

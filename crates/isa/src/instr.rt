@@ -5,7 +5,7 @@ ghost use Rattle.isa.specs.Executing.{source1, source2};
 use crate::reg::Reg;
 
 // Register-register operations, and those with an immediate.
-#[derive(Clone, Copy, PartialEq)]
+#[derive(Clone, Copy, PartialEq, Eq)]
 pub enum AluOp {
     Add,
     Sub,
@@ -20,7 +20,7 @@ pub enum AluOp {
 }
 
 // The operations of the M extension that the core has: low product, high product, quotient, remainder, all unsigned.
-#[derive(Clone, Copy, PartialEq)]
+#[derive(Clone, Copy, PartialEq, Eq)]
 pub enum MulOp {
     Mul,
     Mulhu,
@@ -29,7 +29,7 @@ pub enum MulOp {
 }
 
 // When a branch is taken.
-#[derive(Clone, Copy, PartialEq)]
+#[derive(Clone, Copy, PartialEq, Eq)]
 pub enum Cond {
     Eq,
     Ne,
@@ -39,7 +39,7 @@ pub enum Cond {
     Geu,
 }
 
-#[derive(Clone, Copy)]
+#[derive(Clone, Copy, PartialEq, Eq)]
 pub enum Instr {
     Lui {
         rd: Reg,

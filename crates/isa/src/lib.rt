@@ -3,6 +3,7 @@
 
 pub mod alu;
 pub mod decode;
+pub mod devices;
 pub mod execute;
 pub mod fields;
 pub mod instr;

@@ -5,7 +5,7 @@ ghost use Rattle.isa.specs.Registers.{value_in, no_regs};
 
 use crate::reg::Reg;
 
-#[derive(Clone, Copy)]
+#[derive(Clone, Copy, PartialEq, Eq)]
 pub struct Regs {
     pub values: [u32; 32],
 }

@@ -7,14 +7,14 @@ pub mod ports;
 ghost use Rattle.pins.specs.Cases.{Worked};
 
 // A core was started, or its words are too few.
-#[derive(Clone, Copy)]
+#[derive(Clone, Copy, PartialEq, Eq)]
 pub enum Started {
     Ready,
     Few,
 }
 
 // A clock went by; or the words are no core; or the ports' words are not four and twenty.
-#[derive(Clone, Copy)]
+#[derive(Clone, Copy, PartialEq, Eq)]
 pub enum Clocked {
     Done,
     NoCore,

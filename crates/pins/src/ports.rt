@@ -6,21 +6,21 @@ ghost use Rattle.pins.specs.PortWords.{optional, plain, legal_out, ReadsOutputs,
 use isa::execute::Stop;
 
 // What is given in a clock: a word of code, an answer to a request.
-#[derive(Clone, Copy)]
+#[derive(Clone, Copy, PartialEq, Eq)]
 pub struct Inputs {
     pub code: Option<u32>,
     pub answer: Option<u32>,
 }
 
 // A request to data memory or a device.
-#[derive(Clone, Copy)]
+#[derive(Clone, Copy, PartialEq, Eq)]
 pub enum Request {
     Read { address: u32 },
     Write { address: u32, value: u32 },
 }
 
 // An instruction that is done: its address, the register that it writes and what, or 0 and 0.
-#[derive(Clone, Copy)]
+#[derive(Clone, Copy, PartialEq, Eq)]
 pub struct Retired {
     pub pc: u32,
     pub reg: u32,
@@ -28,14 +28,14 @@ pub struct Retired {
 }
 
 // The instructions done in a clock, up to four, oldest first.
-#[derive(Clone, Copy)]
+#[derive(Clone, Copy, PartialEq, Eq)]
 pub struct Done {
     pub count: u32,
     pub at: [Retired; 4],
 }
 
 // What is shown in a clock: code wanted, a request, whether and how it has stopped, what is done.
-#[derive(Clone, Copy)]
+#[derive(Clone, Copy, PartialEq, Eq)]
 pub struct Outputs {
     pub want: Option<u32>,
     pub request: Option<Request>,

@@ -2,13 +2,11 @@
 ghost use Rattle.std.specs.Prelude.{◌≡◌};
 ghost use Rattle.pipeline.specs.Stages.{is_load, asked, waits_outcome, waits, stands, first_from, at_stage, ask_outcome, ask_at};
 
+use isa::devices::DEVICES;
 use isa::execute::Outcome;
 use window::datapath::Datapath;
 use window::entry::{Entry, Tag};
 use window::queues::Requests;
-
-// Devices from here on; data below.
-const DEVICES: u32 = 0x8000_0000;
 
 // Reading registers, executing, memory.
 #[derive(Clone, Copy)]

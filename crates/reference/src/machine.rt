@@ -9,13 +9,11 @@ ghost use Rattle.reference.specs.Machine.{started, state, written, moved, traced
 use crate::history::History;
 use crate::memory::Memory;
 use crate::trace::{Effect, End, Step, Trace};
+use isa::devices::DEVICES;
 use isa::execute::{Outcome, perform};
 use isa::reg::Reg;
 use isa::regs::Regs;
 use std::alloc::{AllocError, Global};
-
-// Devices have the addresses from here on.
-pub const DEVICES: u32 = 0x8000_0000;
 
 // `used` counts the devices' answers that it has read.
 #[derive(Drop)]

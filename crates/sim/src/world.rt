@@ -7,8 +7,8 @@ use crate::devices::Devices;
 use crate::error::WorldError;
 use crate::queue::Queue;
 use crate::rng::Rng;
+use isa::devices::DEVICES;
 use pins::ports::{Inputs, Outputs, Request};
-use reference::machine::DEVICES;
 use reference::memory::Memory;
 use std::alloc::Global;
 

@@ -1,7 +1,8 @@
 // What requests and instructions do to the outside.
+use isa::devices::DEVICES;
 use isa::execute::{Outcome, perform};
 use pins::ports::Request;
-use reference::machine::{DEVICES, Machine};
+use reference::machine::Machine;
 use reference::memory::Memory;
 use reference::trace::Effect;
 

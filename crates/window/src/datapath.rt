@@ -9,11 +9,9 @@ use crate::known::{left_register, right_register, work};
 use crate::queues::{Fetches, Requests};
 use crate::ring::Ring;
 use crate::stores::StoreBuffer;
+use isa::devices::DEVICES;
 use isa::execute::Outcome;
 use isa::regs::Regs;
-
-// Devices from here on; data below.
-const DEVICES: u32 = 0x8000_0000;
 
 #[derive(Clone, Copy)]
 pub struct Datapath {

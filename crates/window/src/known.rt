@@ -6,12 +6,10 @@ ghost use Rattle.window.specs.Scans.{hits_outcome, hits, leaves_outcome, leaves,
 
 use crate::entry::{Entry, Source};
 use isa::decode::decode;
+use isa::devices::DEVICES;
 use isa::execute::{Outcome, Stop, execute};
 use isa::instr::Instr;
 use isa::reg::Reg;
-
-// Devices from here on; data below.
-const DEVICES: u32 = 0x8000_0000;
 
 // The register that an instruction writes, or x0.
 pub fn target(instr: Instr) -> Reg

@@ -4,11 +4,9 @@ ghost use Rattle.window.specs.Asking.{memory_at, load_at, load_address, load_ask
 
 use crate::datapath::Datapath;
 use crate::entry::{DeviceRead, Number, Source, Tag};
+use isa::devices::DEVICES;
 use isa::execute::{Outcome, Stop};
 use pins::ports::Request;
-
-// Devices from here on; data below.
-const DEVICES: u32 = 0x8000_0000;
 
 fn memory_at(address: u32, source: Source) -> Option<u32>
     ensures { result ≡ memory_at address source }

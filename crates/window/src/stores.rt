@@ -3,9 +3,7 @@ ghost use Rattle.std.specs.Prelude.{◌≡◌, ℕ, ◌<◌};
 ghost use Rattle.window.specs.Rings.{buffer_start, buffer_slot, buffer_entry, buffer_pushed, buffer_popped, matches, row_below, buffer_source};
 
 use crate::entry::{Source, Store};
-
-// Devices from here on; data below.
-const DEVICES: u32 = 0x8000_0000;
+use isa::devices::DEVICES;
 
 #[derive(Clone, Copy)]
 pub struct StoreBuffer {
