@@ -54,11 +54,11 @@ impl Inputs {
     pub fn read(ins: &[u32]) -> Option<Inputs>
         ensures { ReadsInputs ins.now result }
     {
-        if ins.len() != 4 {
+        let [code_flag, code_word, answer_flag, answer_word] = *ins else {
             return None;
-        }
-        let code = given(ins[0], ins[1]);
-        let answer = given(ins[2], ins[3]);
+        };
+        let code = given(code_flag, code_word);
+        let answer = given(answer_flag, answer_word);
         Some(Inputs { code, answer })
     }
 
