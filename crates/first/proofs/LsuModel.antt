@@ -10,12 +10,11 @@ use Rattle.pins.specs.declared.ports.Request.TheVariants.{Read, Write}
 use Rattle.first.specs.declared.state.Store.{Store}
 use Rattle.first.specs.declared.state.Open.{Open}
 use Rattle.first.specs.declared.state.Open.TheVariants.{Acknowledgment, Load as ForLoad}
-use Rattle.first.specs.declared.state.OpenRequests.{OpenRequests}
 use Rattle.first.specs.declared.state.Load.{Load}
 use Rattle.first.specs.declared.state.Load.TheVariants.{Idle, Waiting, Answered}
 use Rattle.first.specs.declared.state.Lsu.{Lsu}
 use Rattle.first.specs.StoreRules.{no_store, entry, buffer_pop}
-use Rattle.first.specs.LsuRules.{open_at, open_push, open_pop, load_answered, lsu_answered, lsu_take, lsu_room, drains, lsu_sent, lsu_drain, write_of, drain_request}
+use Rattle.first.specs.LsuRules.{OpenRequests, open_at, open_push, open_pop, load_answered, lsu_answered, lsu_take, lsu_room, drains, lsu_sent, lsu_drain, write_of, drain_request}
 use Rattle.first.specs.Model.{Storing, answer_load, answer, take_data, drain_if, drain_one, drain}
 use Rattle.first.proofs.Tests.{both_left, both_right, by_cond}
 use Rattle.first.proofs.Ring.{ring}

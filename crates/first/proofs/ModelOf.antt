@@ -3,14 +3,13 @@ use Rattle.std.proofs.Common.{◌≡◌, ℕ, ◌+◌, ◌≤◌, List, length, 
 use Rattle.pins.specs.PortWords.{plain, stop_word}
 use Rattle.first.specs.declared.state.Fetch.{Fetch}
 use Rattle.first.specs.declared.state.Store.{Store}
-use Rattle.first.specs.declared.state.StoreBuffer.{StoreBuffer}
 use Rattle.first.specs.declared.state.Open.{Open}
-use Rattle.first.specs.declared.state.OpenRequests.{OpenRequests}
 use Rattle.first.specs.declared.state.Lsu.{Lsu}
 use Rattle.first.specs.declared.state.Core.{Core}
-use Rattle.first.specs.StoreRules.{no_store}
+use Rattle.first.specs.StoreRules.{StoreBuffer, no_store}
 use Rattle.first.specs.Model.{Fetching, Storing, Model}
 use Rattle.first.proofs.Ring.{ring}
+use Rattle.first.specs.LsuRules.{OpenRequests}
 
 -- arrays as lists
 abbrev pub kept : Fetch → List ℕ

@@ -14,15 +14,13 @@ use Rattle.isa.specs.declared.execute.Stop.{Stop}
 use Rattle.isa.specs.declared.execute.Stop.TheVariants.{EnvCall, Illegal, Misaligned}
 use Rattle.first.specs.declared.state.Fetch.{Fetch}
 use Rattle.first.specs.declared.state.Store.{Store}
-use Rattle.first.specs.declared.state.StoreBuffer.{StoreBuffer}
 use Rattle.first.specs.declared.state.Open.{Open}
 use Rattle.first.specs.declared.state.Open.TheVariants.{Acknowledgment, Load as ForLoad}
-use Rattle.first.specs.declared.state.OpenRequests.{OpenRequests}
 use Rattle.first.specs.declared.state.Load.{Load}
 use Rattle.first.specs.declared.state.Load.TheVariants.{Idle, Waiting, Answered}
 use Rattle.first.specs.declared.state.Core.{Core}
-use Rattle.first.specs.StoreRules.{no_store}
-use Rattle.first.specs.LsuRules.{open_at}
+use Rattle.first.specs.StoreRules.{StoreBuffer, no_store}
+use Rattle.first.specs.LsuRules.{OpenRequests, open_at}
 
 abbrev pub word : List ℕ → ℕ → ℕ
 word w i = slice_index w i

@@ -5,6 +5,7 @@ ghost use Rattle.first.specs.Step.{next, outputs};
 ghost use Rattle.first.specs.StoreRules.{forwarded};
 
 use crate::state::{Action, Core, Effect, Fetch, Load, Lsu, Number, Store};
+use crate::stores::forward;
 use isa::devices::DEVICES;
 use isa::execute::{Outcome, perform};
 use isa::reg::Reg;
@@ -47,7 +48,7 @@ impl Core {
     fn ask_data(&self, rd: Reg, address: u32) -> Action
         ensures { result ≡ forward_or_ask self.now rd address (forwarded self.now.lsu.stores address) }
     {
-        match self.lsu.stores.forward(address) {
+        match forward(&self.lsu.stores, address) {
             Some(value) => Action::Write {
                 rd,
                 value,

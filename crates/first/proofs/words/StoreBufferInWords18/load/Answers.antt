@@ -1,6 +1,6 @@
 use Rattle.std.proofs.Common.{rules}
 use Rattle.first.specs.Layout.{stores_of}
-use Rattle.first.proofs.state.StoreBuffer.load.Goals as goal
+use Rattle.first.proofs.words.StoreBufferInWords18.load.Goals as goal
 
 pub returns : goal.returns
 unfolding stores_of
