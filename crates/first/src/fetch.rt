@@ -37,11 +37,7 @@ impl Fetch {
     pub fn head(&self) -> Option<u32>
         ensures { result ≡ fetch_head self.now }
     {
-        if self.count == 0 {
-            None
-        } else {
-            Some(self.words[0])
-        }
+        (self.count > 0).then_some(self.words[0])
     }
 
     fn pop(&mut self)

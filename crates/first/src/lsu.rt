@@ -90,11 +90,8 @@ impl Lsu {
         ensures after { self.new ≡ lsu_drain self.old request }
         ensures value { result ≡ drain_request self.old request }
     {
-        let None = request else {
+        if request.is_some() || !self.drains() {
             return request;
-        };
-        if !self.drains() {
-            return None;
         }
         let store = self.stores.entry(0);
         self.stores.pop();

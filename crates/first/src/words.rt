@@ -29,13 +29,9 @@ fn stop_from(tag: u32) -> Option<Stop>
 fn stop_word(stopped: Option<Stop>) -> u32
     ensures { result ≡ stop_tag stopped }
 {
-    let Some(stop) = stopped else {
-        return 0;
-    };
-    match stop {
-        Stop::EnvCall => 1,
-        Stop::Illegal => 2,
-        Stop::Misaligned => 3,
+    match stopped {
+        None => 0,
+        Some(stop) => 1 + stop.code(),
     }
 }
 
@@ -109,21 +105,23 @@ impl InWords<3> for Load {
     }
 }
 
-impl Open {
-    fn from_tag(tag: u32) -> Open
-        ensures { result ≡ open_of tag }
-    {
+impl From<u32> for Open {
+    ghost from_gives = { λ tag kind. kind ≡ open_of tag };
+
+    fn from(tag: u32) -> Open {
         if tag == 0 {
             Open::Acknowledgment
         } else {
             Open::Load
         }
     }
+}
 
-    fn tag(self) -> u32
-        ensures { result ≡ open_tag self }
-    {
-        match self {
+impl From<Open> for u32 {
+    ghost from_gives = { λ kind tag. tag ≡ open_tag kind };
+
+    fn from(kind: Open) -> u32 {
+        match kind {
             Open::Acknowledgment => 0,
             Open::Load => 1,
         }
@@ -140,18 +138,13 @@ impl InWords<5> for OpenRequests {
     fn load(w: &[u32]) -> OpenRequests {
         Queue {
             count: w[0],
-            at: [
-                Open::from_tag(w[1]),
-                Open::from_tag(w[2]),
-                Open::from_tag(w[3]),
-                Open::from_tag(w[4]),
-            ],
+            at: [w[1].into(), w[2].into(), w[3].into(), w[4].into()],
         }
     }
 
     fn words(&self) -> [u32; 5] {
         let [a, b, c, d] = self.at;
-        [self.count, a.tag(), b.tag(), c.tag(), d.tag()]
+        [self.count, a.into(), b.into(), c.into(), d.into()]
     }
 }
 
@@ -172,6 +165,7 @@ impl InWords<18> for StoreBuffer {
 
     ghost Shaped = { λ b. length b.at ≡ 8 };
 
+    #[tactic(auto, unfolding(crate::specs::Layout::stores_of))]
     fn load(w: &[u32]) -> StoreBuffer {
         Ring {
             begin: w[0],
@@ -189,6 +183,7 @@ impl InWords<18> for StoreBuffer {
         }
     }
 
+    #[tactic(auto, unfolding(crate::specs::Layout::stores_words))]
     fn words(&self) -> [u32; 18] {
         let [a, b, c, d, e, f, g, h] = self.at;
         [
@@ -210,6 +205,7 @@ fn register_words(regs: &Regs) -> [u32; 32]
 }
 
 impl Core {
+    #[tactic(auto, unfolding(crate::specs::Layout::core_of))]
     fn read(w: &[u32]) -> Core
         requires { 65536 ≤ length w.now }
         ensures { result ≡ core_of w.now }
@@ -232,17 +228,14 @@ impl Core {
     }
 
     // The core that the words are, or none.
+    #[tactic(auto, unfolding(crate::specs::Layout::decode))]
     pub fn load(w: &[u32]) -> Option<Core>
         ensures { result ≡ decode w.now }
     {
-        if w.len() < LENT {
+        if w.len() < LENT || w[0] != MARK {
             return None;
         }
-        if w[0] == MARK {
-            Some(Core::read(w))
-        } else {
-            None
-        }
+        Some(Core::read(w))
     }
 
     // Writes the core into the first of the words.
