@@ -13,7 +13,7 @@ use Rattle.first.specs.LsuRules.{OpenRequests}
 
 -- arrays as lists
 abbrev pub kept : Fetch → List ℕ
-kept f = take f.count f.words
+kept f = take f.words.count f.words.at
 
 abbrev pub waiting : StoreBuffer → List Store
 waiting b = ring no_store b.at b.begin b.count
@@ -32,8 +32,8 @@ model_of k = record { regs = k.regs.values; pc = k.pc; fetch = fetching k.fetch;
 
 -- the counts are within their arrays, and no sum of them wraps
 pub record SizedFetch (f : Fetch) : Type 0 where
-  pub array : length f.words ≡ 2
-  pub ahead : f.count + f.coming ≤ 2
+  pub array : length f.words.at ≡ 2
+  pub ahead : f.words.count + f.coming ≤ 2
   pub asked : f.stale + f.coming ≤ 4
 
 pub record SizedStores (b : StoreBuffer) : Type 0 where

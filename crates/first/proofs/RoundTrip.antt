@@ -23,10 +23,10 @@ stop_back (Some EnvCall) = refl
 stop_back (Some Illegal) = refl
 stop_back (Some Misaligned) = refl
 
-fetch_back : (f : Fetch) → length f.words ≡ 2 → fetch_of (fetch_words f) ≡ f
+fetch_back : (f : Fetch) → length f.words.at ≡ 2 → fetch_of (fetch_words f) ≡ f
 fetch_back f h =
-    let e = fill_by_all (λ (k : ℕ). get_or f.words k 0) f.words 2 0 h (λ k l. refl) in
-    λ i. record { count = f.count; words = sym e i; coming = f.coming; stale = f.stale; next = f.next }
+    let e = fill_by_all (λ (k : ℕ). get_or f.words.at k 0) f.words.at 2 0 h (λ k l. refl) in
+    λ i. record { words = record { count = f.words.count; at = sym e i }; coming = f.coming; stale = f.stale; next = f.next }
 
 load_back : (d : Load) → load_of (load_words d) ≡ d
 load_back Idle = refl

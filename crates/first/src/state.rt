@@ -10,8 +10,7 @@ use rings::ring::Ring;
 // and how many older ones are to be dropped before them; the next address to want.
 #[derive(Clone, Copy)]
 pub struct Fetch {
-    pub count: u32,
-    pub words: [u32; 2],
+    pub words: Queue<u32, 2>,
     pub coming: u32,
     pub stale: u32,
     pub next: u32,

@@ -60,12 +60,14 @@ impl InWords<6> for Fetch {
 
     ghost words_of = { fetch_words };
 
-    ghost Shaped = { λ f. length f.words ≡ 2 };
+    ghost Shaped = { λ f. length f.words.at ≡ 2 };
 
     fn load(w: &[u32]) -> Fetch {
         Fetch {
-            count: w[0],
-            words: [w[1], w[2]],
+            words: Queue {
+                count: w[0],
+                at: [w[1], w[2]],
+            },
             coming: w[3],
             stale: w[4],
             next: w[5],
@@ -73,8 +75,8 @@ impl InWords<6> for Fetch {
     }
 
     fn words(&self) -> [u32; 6] {
-        let [a, b] = self.words;
-        [self.count, a, b, self.coming, self.stale, self.next]
+        let [a, b] = self.words.at;
+        [self.words.count, a, b, self.coming, self.stale, self.next]
     }
 }
 
