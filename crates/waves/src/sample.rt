@@ -71,7 +71,7 @@ fn inside(core: &Core) -> [Option<u32>; 11] {
         address,
         Some(core.lsu.stores.count),
         Some(core.lsu.requests.count),
-        Some(core.fetch.count),
+        Some(core.fetch.words.count),
         Some(core.fetch.coming),
         Some(core.fetch.stale),
     ]
