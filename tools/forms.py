@@ -109,6 +109,11 @@ def same_shape(funs):
     return ['; '.join(g) for g in groups.values() if len(g) > 1]
 
 
+def calls(f):
+    """How many arms of f are one call."""
+    return len(re.findall(r'^\s+[A-Z_0-9][^=]*=> (?:self\.)?[a-z]\w*\([^(){}]*\)\??,$', f.body, re.M))
+
+
 def main():
     files = sources()
     funs = [f for name, text in files.items() for f in functions(name, text)]
@@ -126,12 +131,13 @@ def main():
         ('3', 'a count kept by hand', lines_with(files, r'^\s+\w+ = \w+\.(saturating|wrapping)_add\(1\);')),
         ('4', 'impls of From, TryFrom and Display', lines_with(files, r'^impl.* (From<.*>|TryFrom<.*>|fmt::Display) for ')),
         ('4', 'comparisons by hand', lines_with(files, r'fn (same|equal)_?\w*\(|\.code\(\) == |\w+\.number == \w+\.number')),
-        ('4', 'types without a derived comparison', [x for x in lines_with(files, r'^#\[derive\(') if 'PartialEq' not in x and 'Copy' in x]),
+        ('4', 'conversions by a function of their own', lines_with(files, r'fn (from_\w+|to_\w+|\w+_from|of|stop_\w+|code|tag|name)\(')),
         ('5', 'parameters that travel together', travelling(funs)),
         ('5', 'clauses in three contracts or more', clauses(funs)),
         ('6', 'a count beside an array', lines_with(files, r'^\s+(pub )?(count|begin): u32,')),
         ('6', 'static tables', lines_with(files, r'^(pub )?(static|const) \w+: \[')),
-        ('7', 'functions that differ by the step that they call', lines_with(files, r'fn (show_errors|show_hex_errors|read_left|read_right|execute|forward)\(')),
+        ('7', 'a match of three arms or more that each only call a function', [str(f) for f in funs if calls(f) >= 3]),
+        ('7', 'function pointers and dyn', lines_with(files, r'\bdyn \w|: fn\(')),
     ]
     for point, what, found in looks:
         if only and point not in only:
