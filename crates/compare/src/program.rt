@@ -7,11 +7,10 @@ use std::env;
 use testbench::failure::Failure;
 use testbench::files::{Format, read_program};
 use testbench::generator::random_program;
-use testbench::mismatch::Mismatch;
 use testbench::setup::Setup;
 use testbench::summary::Summary;
 use testbench::trace::trace;
-use testbench::versus::{Verdict, versus};
+use testbench::versus::{Difference, versus};
 
 // What agreed so far.
 #[derive(Clone, Copy)]
@@ -117,9 +116,9 @@ fn compare(
             seed,
         };
         match versus(rt.alloc(), &setup, u64::from(options.clocks))? {
-            Verdict::Agrees(summary) => totals.add(&summary),
-            Verdict::Differs { clock, mismatch } => {
-                show_difference(rt, name, &setup, clock, mismatch)?;
+            Ok(summary) => totals.add(&summary),
+            Err(difference) => {
+                show_difference(rt, name, &setup, difference)?;
                 return Err(Failure::Shown);
             }
         }
@@ -131,9 +130,9 @@ fn show_difference(
     rt: &HostRuntime,
     name: &str,
     setup: &Setup,
-    clock: u64,
-    mismatch: Mismatch,
+    difference: Difference,
 ) -> Result<(), Failure> {
+    let Difference { clock, mismatch } = difference;
     let delay = setup.delay;
     println!(rt; "{name}, answers after {delay} clocks: in clock {clock} {mismatch}")?;
     println!(rt)?;

@@ -10,7 +10,7 @@ use crate::reg::Reg;
 use crate::regs::Regs;
 
 // Why it stops: ecall, no instruction, an address that is not a multiple of 4.
-#[derive(Clone, Copy, PartialEq, Eq)]
+#[derive(Clone, Copy, Debug, PartialEq, Eq)]
 pub enum Stop {
     EnvCall,
     Illegal,

@@ -20,7 +20,7 @@ pub enum Request {
 }
 
 // An instruction that is done: its address, the register that it writes and what, or 0 and 0.
-#[derive(Clone, Copy, PartialEq, Eq)]
+#[derive(Clone, Copy, Debug, PartialEq, Eq)]
 pub struct Retired {
     pub pc: u32,
     pub reg: u32,

@@ -3,7 +3,7 @@ use isa::execute::Stop;
 use pins::ports::Retired;
 
 // What is done to the outside: a word of data or of a device is written, or a device is asked.
-#[derive(Clone, Copy, PartialEq, Eq)]
+#[derive(Clone, Copy, Debug, PartialEq, Eq)]
 pub enum Effect {
     Write { address: u32, value: u32 },
     Ask { address: u32 },

@@ -1,5 +1,4 @@
 // Runs that are shown clock by clock.
-use crate::effects::effect_of;
 use crate::failure::Failure;
 use crate::lines::{Shown, Word, instruction};
 use crate::session::{Clock, Session};
@@ -46,10 +45,7 @@ pub fn show(rt: &HostRuntime, code: &Memory, clock: &Clock) -> Result<(), Failur
 // Writes and reads of devices.
 fn show_request(rt: &HostRuntime, clock: &Clock) -> Result<(), Failure> {
     let number = clock.number;
-    let Some(request) = clock.outputs.request else {
-        return Ok(());
-    };
-    match effect_of(request) {
+    match clock.effect() {
         Some(Effect::Write { address, value }) => {
             let value = Word(value);
             println!(rt; "clock {number:>6}              write {address:#010x} <- {value}")?;
