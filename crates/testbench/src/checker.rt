@@ -6,7 +6,7 @@ use isa::execute::Stop;
 use pins::ports::{Inputs, Outputs, Retired};
 use reference::machine::Machine;
 use reference::memory::Memory;
-use reference::trace::{Effect, Step, Trace};
+use reference::trace::{Effect, Step};
 use std::alloc::Global;
 use std::collections::VecDeque;
 
@@ -102,9 +102,12 @@ impl Checker {
     fn check_retired(&mut self, told: &[u32], core: Retired) -> Result<(), CheckError> {
         match self.machine.step(&self.code, told)? {
             Step::Done { trace, effect } => {
-                let manual = retired(trace);
-                if core != manual {
-                    return Err(Mismatch::Done { core, manual }.into());
+                if core != trace {
+                    return Err(Mismatch::Done {
+                        core,
+                        manual: trace,
+                    }
+                    .into());
                 }
                 if let Some(effect) = effect {
                     self.check_effect(effect)?;
@@ -187,10 +190,4 @@ fn same(core: Effect, manual: Effect) -> Result<(), Mismatch> {
     } else {
         Err(Mismatch::Asked { core, manual })
     }
-}
-
-// The manual's trace, as the ports show it.
-fn retired(trace: Trace) -> Retired {
-    let Trace { pc, reg, value } = trace;
-    Retired { pc, reg, value }
 }

@@ -27,8 +27,7 @@ pub struct Clock {
 impl Clock {
     // The instructions that are done, oldest first.
     pub fn done(&self) -> &[Retired] {
-        let count = self.outputs.done.count.min(4) as usize;
-        &self.outputs.done.at[0..count]
+        self.outputs.done.retired()
     }
 
     // The write or the read of a device that is asked, if any.
