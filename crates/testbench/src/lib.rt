@@ -9,6 +9,8 @@ pub mod files;
 pub mod generator;
 pub mod lines;
 pub mod mismatch;
+pub mod options;
+pub mod runner;
 pub mod session;
 pub mod setup;
 pub mod summary;
