@@ -10,6 +10,7 @@ pub mod generator;
 pub mod lines;
 pub mod mismatch;
 pub mod options;
+pub mod ratio;
 pub mod runner;
 pub mod session;
 pub mod setup;
