@@ -36,6 +36,8 @@ impl<'a> Words<'a> {
 
     // A value that is a number.
     pub fn number(&mut self, option: &str) -> Result<u32, Failure>
+        ensures missing { self.old.rest.now ≡ [] → IsErr result }
+        ensures taken { IfOk result (λ _. length self.old.rest.now ≡ length self.new.rest.now + 1) }
         ensures fewer { length self.new.rest.now ≤ length self.old.rest.now }
     {
         read_number(self.heap, option, self.value(option)?)
