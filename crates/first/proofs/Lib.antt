@@ -1,6 +1,7 @@
 pub mod Tests
 pub mod Newest
 pub mod Queues
+pub mod FromFn
 pub mod Parts
 pub mod RoundTrip
 pub mod Ring

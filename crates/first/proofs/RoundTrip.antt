@@ -14,6 +14,7 @@ use Rattle.first.specs.declared.state.Load.TheVariants.{Idle, Waiting, Answered}
 use Rattle.first.specs.declared.state.Core.{Core}
 use Rattle.first.specs.StoreRules.{StoreBuffer, no_store}
 use Rattle.first.specs.LsuRules.{OpenRequests, open_at}
+use Rattle.first.specs.Back.{fetch_back, load_back, requests_back, stores_back}
 use Rattle.first.specs.Layout.{word, mark, stop_of, stop_tag, fetch_of, fetch_words, load_of, load_words, open_of, open_tag, requests_of, requests_words, stores_of, stores_words, head_words, core_of, core_words, decode, Shaped}
 
 -- part by part
@@ -22,31 +23,6 @@ stop_back None = refl
 stop_back (Some EnvCall) = refl
 stop_back (Some Illegal) = refl
 stop_back (Some Misaligned) = refl
-
-fetch_back : (f : Fetch) → length f.words.at ≡ 2 → fetch_of (fetch_words f) ≡ f
-fetch_back f h =
-    let e = fill_by_all (λ (k : ℕ). get_or f.words.at k 0) f.words.at 2 0 h (λ k l. refl) in
-    λ i. record { words = record { count = f.words.count; at = sym e i }; coming = f.coming; stale = f.stale; next = f.next }
-
-load_back : (d : Load) → load_of (load_words d) ≡ d
-load_back Idle = refl
-load_back (Waiting a) = refl
-load_back (Answered a x) = refl
-
-open_back : (o : Open) → open_of (open_tag o) ≡ o
-open_back Acknowledgment = refl
-open_back ForLoad = refl
-
-requests_back : (q : OpenRequests) → length q.at ≡ 4 → requests_of (requests_words q) ≡ q
-requests_back q h =
-    let e = fill_by_all (λ (k : ℕ). open_of (open_tag (open_at q k))) q.at 4 Acknowledgment h (λ k l. sym (open_back (open_at q k))) in
-    λ i. record { count = q.count; at = sym e i }
-
-stores_back : (b : StoreBuffer) → length b.at ≡ 8 → stores_of (stores_words b) ≡ b
-unfolding stores_of stores_words
-stores_back b h =
-    let e = fill_by_all (λ (k : ℕ). get_or b.at k no_store) b.at 8 no_store h (λ k l. refl) in
-    λ i. record { begin = b.begin; count = b.count; at = sym e i }
 
 stores_length : (b : StoreBuffer) → length (stores_words b) ≡ 18
 unfolding stores_words
@@ -87,7 +63,7 @@ core_back k rest s =
     let d = at_part ((A ++ B) ++ C) D (E ++ (F ++ rest)) w 13 5 (simp append_assoc) l3 refl in
     let e = at_part (((A ++ B) ++ C) ++ D) E (F ++ rest) w 18 18 (simp append_assoc) l4 le in
     let f = at_part ((((A ++ B) ++ C) ++ D) ++ E) F rest w 36 32 (simp append_assoc) l5 s.regs in
-    core_same k f (fetch_back k.fetch s.fetch) (ap stores_of e ∙ stores_back k.lsu.stores s.stores) (ap requests_of d ∙ requests_back k.lsu.requests s.requests) (ap load_of c ∙ load_back k.lsu.load) (stop_back k.stopped)
+    core_same k f (fetch_back k.fetch s.fetch) (ap stores_of e ∙ stores_back k.lsu.stores s.stores) (ap requests_of d ∙ requests_back k.lsu.requests s.requests) (ap load_of c ∙ load_back k.lsu.load tt) (stop_back k.stopped)
 
 words_length : (k : Core) → Shaped k → length (core_words k) ≡ 68
 unfolding core_words

@@ -1,12 +1,14 @@
 // The core in its lent words: read from them, and written back.
 ghost use Rattle.std.specs.Prelude.{◌≡◌, ℕ, ◌+◌, ◌<◌, ◌≤◌, ◌++◌, List, length, drop, ⊤};
-ghost use Rattle.first.specs.Layout.{stop_of, fetch_of, load_of, open_of, requests_of, store_of, stores_of, core_of, decode, stop_tag, head_words, fetch_words, load_words, open_tag, requests_words, stores_words, core_words, Shaped};
+ghost use Rattle.first.specs.Layout.{stop_of, regs_of, fetch_of, load_of, open_of, requests_of, store_of, stores_of, core_of, decode, stop_tag, head_words, fetch_words, load_words, open_tag, requests_words, stores_words, core_words, Shaped};
+ghost use Rattle.first.specs.Back.{regs_back, fetch_back, load_back, requests_back, stores_back};
 
 use crate::state::{Core, Fetch, Load, Lsu, Number, Open, OpenRequests, Store, StoreBuffer};
 use isa::execute::Stop;
 use isa::regs::Regs;
 use rings::queue::Queue;
 use rings::ring::Ring;
+use std::array;
 
 // As few words as a core is lent.
 pub const LENT: usize = 65536;
@@ -53,6 +55,9 @@ trait InWords<const N: usize>: Sized {
     fn words(&self) -> [u32; N]
         ensures is { result ≡ words_of self.now }
         ensures shaped { Shaped self.now };
+
+    // What is written is read back.
+    ghost back: { (part : Self) → Shaped part → of (words_of part) ≡ part };
 }
 
 impl InWords<6> for Fetch {
@@ -61,6 +66,8 @@ impl InWords<6> for Fetch {
     ghost words_of = { fetch_words };
 
     ghost Shaped = { λ f. length f.words.at ≡ 2 };
+
+    ghost back = { fetch_back };
 
     fn load(w: &[u32]) -> Fetch {
         Fetch {
@@ -86,6 +93,8 @@ impl InWords<3> for Load {
     ghost words_of = { load_words };
 
     ghost Shaped = { λ _. ⊤ };
+
+    ghost back = { load_back };
 
     fn load(w: &[u32]) -> Load {
         match w[0] {
@@ -137,10 +146,12 @@ impl InWords<5> for OpenRequests {
 
     ghost Shaped = { λ q. length q.at ≡ 4 };
 
+    ghost back = { requests_back };
+
     fn load(w: &[u32]) -> OpenRequests {
         Queue {
             count: w[0],
-            at: [w[1].into(), w[2].into(), w[3].into(), w[4].into()],
+            at: array::from_fn(|i| w[1 + i].into()),
         }
     }
 
@@ -167,21 +178,14 @@ impl InWords<18> for StoreBuffer {
 
     ghost Shaped = { λ b. length b.at ≡ 8 };
 
+    ghost back = { stores_back };
+
     #[tactic(auto, unfolding(crate::specs::Layout::stores_of))]
     fn load(w: &[u32]) -> StoreBuffer {
         Ring {
             begin: w[0],
             count: w[1],
-            at: [
-                store_at(w, 2),
-                store_at(w, 4),
-                store_at(w, 6),
-                store_at(w, 8),
-                store_at(w, 10),
-                store_at(w, 12),
-                store_at(w, 14),
-                store_at(w, 16),
-            ],
+            at: array::from_fn(|i| store_at(w, 2 + 2 * i)),
         }
     }
 
@@ -196,14 +200,27 @@ impl InWords<18> for StoreBuffer {
     }
 }
 
-// By a copy of their own, which the compiler moves in few large pieces.
-fn register_words(regs: &Regs) -> [u32; 32]
-    ensures is { result ≡ regs.now.values }
-    ensures shaped { length regs.now.values ≡ 32 }
-{
-    let mut values = [0u32; 32];
-    values.copy_from_slice(&regs.values);
-    values
+impl InWords<32> for Regs {
+    ghost of = { regs_of };
+
+    ghost words_of = { λ g. g.values };
+
+    ghost Shaped = { λ g. length g.values ≡ 32 };
+
+    ghost back = { regs_back };
+
+    fn load(w: &[u32]) -> Regs {
+        let mut values = [0u32; 32];
+        values.copy_from_slice(w);
+        Regs { values }
+    }
+
+    // By a copy of their own, which the compiler moves in few large pieces.
+    fn words(&self) -> [u32; 32] {
+        let mut values = [0u32; 32];
+        values.copy_from_slice(&self.values);
+        values
+    }
 }
 
 impl Core {
@@ -212,15 +229,13 @@ impl Core {
         requires { 65536 ≤ length w.now }
         ensures { result ≡ core_of w.now }
     {
-        let mut values = [0u32; 32];
-        values.copy_from_slice(&w[36..68]);
         let lsu = Lsu {
             stores: StoreBuffer::load(&w[18..36]),
             requests: OpenRequests::load(&w[13..18]),
             load: Load::load(&w[10..13]),
         };
         Core {
-            regs: Regs { values },
+            regs: Regs::load(&w[36..68]),
             pc: w[1],
             number: Number(w[2]),
             fetch: Fetch::load(&w[4..10]),
@@ -251,6 +266,6 @@ impl Core {
         w[10..13].copy_from_slice(&self.lsu.load.words());
         w[13..18].copy_from_slice(&self.lsu.requests.words());
         w[18..36].copy_from_slice(&self.lsu.stores.words());
-        w[36..68].copy_from_slice(&register_words(&self.regs));
+        w[36..68].copy_from_slice(&self.regs.words());
     }
 }
