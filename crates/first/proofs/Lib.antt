@@ -1,4 +1,3 @@
-pub mod Tests
 pub mod Newest
 pub mod Queues
 pub mod FromFn

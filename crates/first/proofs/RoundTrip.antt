@@ -1,21 +1,18 @@
 -- What is written into the words is read back.
-use Rattle.std.proofs.Common.{◌≡◌, ℕ, ◌≤◌, false, ltb, List, ◌++◌, length, get_or, take, drop, Some, None, Option, sym, refl, ap, ◌∙◌, append_assoc, arith, length-append, length-drop}
+use Rattle.std.proofs.Common.{◌≡◌, ℕ, ◌≤◌, false, ltb, List, ◌++◌, length, take, drop, Some, None, Option, refl, ap, ◌∙◌, append_assoc, arith, length-append, length-drop}
 use Rattle.std.proofs.lemmas.List.{take_at, drop_at}
-use Rattle.std.proofs.lemmas.List.FromFn.{fill_by_all}
 use Rattle.std.proofs.lemmas.Bool.{le-ltb}
 use Rattle.std.proofs.lemmas.Bool.Decides.{nat_tests}
 use Rattle.isa.specs.declared.execute.Stop.{Stop}
 use Rattle.isa.specs.declared.execute.Stop.TheVariants.{EnvCall, Illegal, Misaligned}
 use Rattle.first.specs.declared.state.Fetch.{Fetch}
-use Rattle.first.specs.declared.state.Open.{Open}
-use Rattle.first.specs.declared.state.Open.TheVariants.{Acknowledgment, Load as ForLoad}
 use Rattle.first.specs.declared.state.Load.{Load}
 use Rattle.first.specs.declared.state.Load.TheVariants.{Idle, Waiting, Answered}
 use Rattle.first.specs.declared.state.Core.{Core}
-use Rattle.first.specs.StoreRules.{StoreBuffer, no_store}
-use Rattle.first.specs.LsuRules.{OpenRequests, open_at}
+use Rattle.first.specs.StoreRules.{StoreBuffer}
+use Rattle.first.specs.LsuRules.{OpenRequests}
 use Rattle.first.specs.Back.{fetch_back, load_back, requests_back, stores_back}
-use Rattle.first.specs.Layout.{word, mark, stop_of, stop_tag, fetch_of, fetch_words, load_of, load_words, open_of, open_tag, requests_of, requests_words, stores_of, stores_words, head_words, core_of, core_words, decode, Shaped}
+use Rattle.first.specs.Layout.{word, mark, stop_of, stop_tag, fetch_words, load_of, load_words, requests_of, requests_words, stores_of, stores_words, head_words, core_of, core_words, decode, Shaped}
 
 -- part by part
 stop_back : (h : Option Stop) → stop_of (stop_tag h) ≡ h

@@ -1,4 +1,4 @@
-use Rattle.std.proofs.Common.{◌≡◌, ℕ, ◌+◌, get_or, rules}
+use Rattle.std.proofs.Common.{ℕ, ◌+◌, get_or, rules}
 use Rattle.first.specs.declared.state.Open.TheVariants.{Acknowledgment}
 use Rattle.first.specs.Layout.{open_of}
 use Rattle.first.proofs.FromFn.{from_fn_is}

@@ -1,4 +1,4 @@
-use Rattle.std.proofs.Common.{◌≡◌, ℕ, ◌+◌, ◌*◌, get_or, rules}
+use Rattle.std.proofs.Common.{ℕ, ◌+◌, ◌*◌, get_or, rules}
 use Rattle.first.specs.StoreRules.{no_store}
 use Rattle.first.specs.Layout.{store_of, stores_of}
 use Rattle.first.proofs.FromFn.{from_fn_is}
