@@ -27,3 +27,4 @@ pub mod DataFalls
 pub mod RankFalls
 pub mod StoresOut
 pub mod GoesOn
+pub mod Posts
