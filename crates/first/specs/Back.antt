@@ -1,8 +1,10 @@
 -- A part of the core that is written into its words is read back: the laws of the parts.
-use Rattle.std.specs.Prelude.{◌≡◌, ℕ, length, ⊤, refl}
+use Rattle.std.specs.Prelude.{◌≡◌, ℕ, length, Some, None, Option, ⊤, refl}
 use Rattle.std.proofs.Common.{get_or, sym}
 use Rattle.std.proofs.lemmas.List.FromFn.{fill_by_all}
 use Rattle.isa.specs.declared.regs.Regs.{Regs}
+use Rattle.isa.specs.declared.execute.Stop.{Stop}
+use Rattle.isa.specs.declared.execute.Stop.TheVariants.{EnvCall, Illegal, Misaligned}
 use Rattle.first.specs.declared.state.Fetch.{Fetch}
 use Rattle.first.specs.declared.state.Open.{Open}
 use Rattle.first.specs.declared.state.Open.TheVariants.{Acknowledgment, Load as ForLoad}
@@ -10,10 +12,16 @@ use Rattle.first.specs.declared.state.Load.{Load}
 use Rattle.first.specs.declared.state.Load.TheVariants.{Idle, Waiting, Answered}
 use Rattle.first.specs.StoreRules.{StoreBuffer, no_store}
 use Rattle.first.specs.LsuRules.{OpenRequests, open_at}
-use Rattle.first.specs.Layout.{regs_of, fetch_of, fetch_words, load_of, load_words, open_of, open_tag, requests_of, requests_words, stores_of, stores_words}
+use Rattle.first.specs.Layout.{stop_of, stop_tag, regs_of, fetch_of, fetch_words, load_of, load_words, open_of, open_tag, requests_of, requests_words, stores_of, stores_words}
 
 pub regs_back : (g : Regs) → length g.values ≡ 32 → regs_of g.values ≡ g
 regs_back g h = refl
+
+pub stop_back : (h : Option Stop) → ⊤ → stop_of (stop_tag h) ≡ h
+stop_back None t = refl
+stop_back (Some EnvCall) t = refl
+stop_back (Some Illegal) t = refl
+stop_back (Some Misaligned) t = refl
 
 pub fetch_back : (f : Fetch) → length f.words.at ≡ 2 → fetch_of (fetch_words f) ≡ f
 fetch_back f h =

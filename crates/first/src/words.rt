@@ -1,7 +1,7 @@
 // The core in its lent words: read from them, and written back.
-ghost use Rattle.std.specs.Prelude.{◌≡◌, ℕ, ◌+◌, ◌<◌, ◌≤◌, ◌++◌, List, length, drop, ⊤};
-ghost use Rattle.first.specs.Layout.{stop_of, regs_of, fetch_of, load_of, open_of, requests_of, store_of, stores_of, core_of, decode, stop_tag, head_words, fetch_words, load_words, open_tag, requests_words, stores_words, core_words, Shaped};
-ghost use Rattle.first.specs.Back.{regs_back, fetch_back, load_back, requests_back, stores_back};
+ghost use Rattle.std.specs.Prelude.{◌≡◌, ℕ, ◌+◌, ◌<◌, ◌≤◌, ◌++◌, List, [], ◌∷◌, length, drop, ⊤};
+ghost use Rattle.first.specs.Layout.{word, stop_of, regs_of, fetch_of, load_of, open_of, requests_of, store_of, stores_of, core_of, decode, stop_tag, head_words, fetch_words, load_words, open_tag, requests_words, stores_words, core_words, Shaped};
+ghost use Rattle.first.specs.Back.{stop_back, regs_back, fetch_back, load_back, requests_back, stores_back};
 
 use crate::state::{Core, Fetch, Load, Lsu, Number, Open, OpenRequests, Store, StoreBuffer};
 use isa::execute::Stop;
@@ -12,30 +12,8 @@ use std::array;
 
 // As few words as a core is lent.
 pub const LENT: usize = 65536;
-// As many of them as it uses.
-pub const USED: usize = 68;
 // What the first word of a first core is.
 const MARK: u32 = 0x4649_5253;
-
-fn stop_from(tag: u32) -> Option<Stop>
-    ensures { result ≡ stop_of tag }
-{
-    match tag {
-        0 => None,
-        1 => Some(Stop::EnvCall),
-        2 => Some(Stop::Illegal),
-        _ => Some(Stop::Misaligned),
-    }
-}
-
-fn stop_word(stopped: Option<Stop>) -> u32
-    ensures { result ≡ stop_tag stopped }
-{
-    match stopped {
-        None => 0,
-        Some(stop) => 1 + stop.code(),
-    }
-}
 
 // A part of the core, which stands in N words.
 trait InWords<const N: usize>: Sized {
@@ -58,6 +36,32 @@ trait InWords<const N: usize>: Sized {
 
     // What is written is read back.
     ghost back: { (part : Self) → Shaped part → of (words_of part) ≡ part };
+}
+
+impl InWords<1> for Option<Stop> {
+    ghost of = { λ w. stop_of (word w 0) };
+
+    ghost words_of = { λ stopped. stop_tag stopped ∷ [] };
+
+    ghost Shaped = { λ _. ⊤ };
+
+    ghost back = { stop_back };
+
+    fn load(w: &[u32]) -> Option<Stop> {
+        match w[0] {
+            0 => None,
+            1 => Some(Stop::EnvCall),
+            2 => Some(Stop::Illegal),
+            _ => Some(Stop::Misaligned),
+        }
+    }
+
+    fn words(&self) -> [u32; 1] {
+        match *self {
+            None => [0],
+            Some(stop) => [1 + stop.code()],
+        }
+    }
 }
 
 impl InWords<6> for Fetch {
@@ -240,7 +244,7 @@ impl Core {
             number: Number(w[2]),
             fetch: Fetch::load(&w[4..10]),
             lsu,
-            stopped: stop_from(w[3]),
+            stopped: Option::load(&w[3..4]),
         }
     }
 
@@ -261,7 +265,8 @@ impl Core {
         ensures is { w.new ≡ core_words self.now ++ drop 68 w.old }
         ensures shaped { Shaped self.now }
     {
-        w[0..4].copy_from_slice(&[MARK, self.pc, self.number.0, stop_word(self.stopped)]);
+        let [stop]: [u32; 1] = self.stopped.words();
+        w[0..4].copy_from_slice(&[MARK, self.pc, self.number.0, stop]);
         w[4..10].copy_from_slice(&self.fetch.words());
         w[10..13].copy_from_slice(&self.lsu.load.words());
         w[13..18].copy_from_slice(&self.lsu.requests.words());

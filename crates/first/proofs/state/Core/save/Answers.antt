@@ -8,4 +8,4 @@ unfolding core_words
 returns-clause-is c =
     let k = c.args.self.now in
     parts_are c.args.w.now _ _ _ _ _ _ (head_words k) (fetch_words k.fetch) (load_words k.lsu.load) (requests_words k.lsu.requests) (stores_words k.lsu.stores) k.regs.values
-        (search rules) (search rules) (search rules) (search rules) (search rules) (search rules) (search rules) (search rules) (search rules) (search rules) (search rules)
+    (search rules) (search rules) (search rules) (search rules) (search rules) (search rules) (search rules) (search rules) (search rules) (search rules) (search rules)
