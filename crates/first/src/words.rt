@@ -193,6 +193,7 @@ impl InWords<18> for StoreBuffer {
         }
     }
 
+    // Written out: no method flattens eight pairs into one array.
     #[tactic(auto, unfolding(crate::specs::Layout::stores_words))]
     fn words(&self) -> [u32; 18] {
         let [a, b, c, d, e, f, g, h] = self.at;
