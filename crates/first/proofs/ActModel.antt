@@ -1,7 +1,7 @@
 -- Doing what was decided is the model's doing it.
 use Rattle.std.proofs.Common.{◌≡◌, ℕ, ◌<◌, Bool, true, false, ◌&&◌, ltb, List, Some, None, Option, refl}
 use mathlib.Core.Option.{Option as Opt}
-use Rattle.std.proofs.lemmas.Bool.{ltb-true}
+use Rattle.std.proofs.lemmas.Bool.{ltb-true, and_parts, cond_both}
 use Rattle.isa.specs.Words.{add}
 use Rattle.isa.specs.Manual.{device}
 use Rattle.isa.specs.Executing.{work}
@@ -22,7 +22,6 @@ use Rattle.first.specs.LsuRules.{lsu_room}
 use Rattle.first.specs.FetchRules.{fetch_head}
 use Rattle.first.specs.WorkRules.{no_stores, forward_or_ask, load_action, outcome_action, word_action, is_some, action_unless, action, act, effect}
 use Rattle.first.specs.Model.{Fetching, Model, apply}
-use Rattle.first.proofs.Tests.{both_left, by_cond}
 use Rattle.first.proofs.ModelOf.{model_of, Sized}
 use Rattle.first.proofs.FetchModel.{goto_is, goto_sized}
 use Rattle.first.proofs.StoreModel as stores
@@ -40,23 +39,23 @@ Fits k (Ask a) = k.lsu.requests.count < 4
 -- only such are decided
 module _ (k : Core) where
   ask_fits : (a : ℕ) (t : Bool) → (lsu_room k.lsu && t) ≡ true → Fits k (Ask a)
-  ask_fits a t e = ltb-true k.lsu.requests.count 4 (both_left (lsu_room k.lsu) t e)
+  ask_fits a t e = ltb-true k.lsu.requests.count 4 (and_parts (lsu_room k.lsu) t e).0
 
   load_fits : (r : Reg) (a : ℕ) (l : Load) → Fits k (load_action k r a l)
   load_fits r a (Waiting b) = tt
   load_fits r a (Answered b x) = tt
-  load_fits r a Idle = by_cond (Fits k) (device a) (λ _. by_cond (Fits k) (lsu_room k.lsu && no_stores k) (ask_fits a (no_stores k)) (λ _. tt)) (λ _. forwards (forwarded k.lsu.stores a))
+  load_fits r a Idle = cond_both (device a) _ _ (Fits k) (λ _. cond_both (lsu_room k.lsu && no_stores k) _ _ (Fits k) (ask_fits a (no_stores k)) (λ _. tt)) (λ _. forwards (forwarded k.lsu.stores a))
     where
       forwards : (o : Option ℕ) → Fits k (forward_or_ask k r a o)
-      forwards None = by_cond (Fits k) (lsu_room k.lsu) (λ e. ltb-true k.lsu.requests.count 4 e) (λ _. tt)
+      forwards None = cond_both (lsu_room k.lsu) _ _ (Fits k) (λ e. ltb-true k.lsu.requests.count 4 e) (λ _. tt)
       forwards (Some x) = tt
 
   outcome_fits : (o : Outcome) → Fits k (outcome_action k o)
   outcome_fits (Writes r x a) = tt
   outcome_fits (Jumps a) = tt
   outcome_fits (Loads r a) = load_fits r a k.lsu.load
-  outcome_fits (Stores a x) = by_cond (Fits k) (ltb k.lsu.stores.count 8) (λ e. ltb-true k.lsu.stores.count 8 e) (λ _. tt)
-  outcome_fits (Halts s) = by_cond (Fits k) (no_stores k) (λ _. tt) (λ _. tt)
+  outcome_fits (Stores a x) = cond_both (ltb k.lsu.stores.count 8) _ _ (Fits k) (λ e. ltb-true k.lsu.stores.count 8 e) (λ _. tt)
+  outcome_fits (Halts s) = cond_both (no_stores k) _ _ (Fits k) (λ _. tt) (λ _. tt)
 
   word_fits : (o : Option ℕ) → Fits k (word_action k o)
   word_fits None = tt

@@ -1,11 +1,10 @@
 -- Code comes in time: while no word is there, the wait for it falls.
 use Rattle.std.proofs.Common.{◌≡◌, ℕ, zero, suc, ◌+◌, ◌-◌, ◌*◌, ◌<◌, ◌≤◌, Bool, true, false, ◌&&◌, eqb, ltb, List, [], ◌∷◌, ◌++◌, length, sym, refl, ap, ◌∙◌, subst, arith, length-append}
 use mathlib.Core.Option.{Option, some, none}
-use Rattle.std.proofs.lemmas.Bool.{ltb-true, ltb-false, lt-ltb, ne_eqb, eq-eqb}
+use Rattle.std.proofs.lemmas.Bool.{ltb-true, ltb-false, lt-ltb, ne_eqb, eq-eqb, and_parts}
 use Rattle.pins.specs.View.{push}
 use Rattle.pins.specs.Waits.{aged, age0}
 use Rattle.first.specs.Model.{Fetching, took, took_use, take_code, want, want_if}
-use Rattle.first.proofs.Tests.{both_right}
 use Rattle.first.proofs.Left.{AskedFor, Young, older, left, older_length, young_push, left_older, left_push, left_new, left_past, left_most}
 
 -- the first want that is of use; if four stale ones fill the port, first one of these
@@ -70,7 +69,7 @@ module _ (l : ℕ) (f : Fetching) (q : List ℕ) (ct : f.stale + f.coming ≡ le
       let ahead = ltb (length f.words + f.coming) 2 in
       let few = ltb (f.stale + f.coming) 4 in
       falls_if f.coming refl (ahead && few)
-      (λ t. ltb-true (f.stale + f.coming) 4 (both_right ahead few t))
+      (λ t. ltb-true (f.stale + f.coming) 4 (and_parts ahead few t).1)
       (λ t z. omega (arith, ltb-false (f.stale + f.coming) 4 (sym (ap (λ b. b && few) (lt-ltb (length f.words + f.coming) 2 (omega arith))) ∙ t)))
       y
 

@@ -3,13 +3,12 @@ use Rattle.std.proofs.Common.{◌≡◌, ℕ, zero, suc, ◌+◌, ◌-◌, ◌%�
 use mathlib.Core.Option.{Option as Opt, some, none}
 use lib.Dec.{eqb-suc-zero}
 use Rattle.std.proofs.lemmas.List.{length-take-le}
-use Rattle.std.proofs.lemmas.Bool.{lt-ltb, ltb-true}
+use Rattle.std.proofs.lemmas.Bool.{lt-ltb, ltb-true, and_parts, cond_both, true≢false}
 use Rattle.isa.specs.Words.{add}
 use Rattle.pins.specs.PortWords.{optional, plain}
 use Rattle.first.specs.declared.state.Fetch.{Fetch}
 use Rattle.first.specs.FetchRules.{fetch_take, fetch_drop, fetch_keep, fetch_pop, fetch_flush, fetch_goto, fetch_room, fetch_more, fetch_wanted, fetch_want}
 use Rattle.first.specs.Model.{Fetching, rest, refetch, took_use, took, take_code, want_if, want}
-use Rattle.first.proofs.Tests.{clash, both_left, both_right, by_cond}
 use Rattle.first.proofs.Queues.{pushed_behind, oldest_taken, two_up}
 use Rattle.first.proofs.ModelOf.{kept, fetching, SizedFetch}
 
@@ -41,7 +40,7 @@ keep_model : (n : ℕ) (ws : List ℕ) (c s a x : ℕ) → s ≡ 0 → length ws
 keep_model n ws zero s a x z h l true e = let q = ltb-true 0 0 e in absurd (omega arith)
 keep_model n ws zero s a x z h l false e = refl
 keep_model n ws (suc c) s a x z h l true e = same_fetching (keep_kept n ws x h (omega arith)) (omega arith) refl refl
-keep_model n ws (suc c) s a x z h l false e = absurd (clash (sym (lt-ltb 0 (suc c) (omega arith)) ∙ e))
+keep_model n ws (suc c) s a x z h l false e = absurd (true≢false (sym (lt-ltb 0 (suc c) (omega arith)) ∙ e))
 
 take_model : (n : ℕ) (ws : List ℕ) (c s a x : ℕ) → length ws ≡ 2 → n + c ≤ 2 → (b : Bool) → ltb 0 s ≡ b
     → fetching (cond b (fetch_drop (record { words = record { count = n; at = ws }; coming = c; stale = s; next = a })) (cond (ltb 0 c) (fetch_keep (record { words = record { count = n; at = ws }; coming = c; stale = s; next = a }) x) (record { words = record { count = n; at = ws }; coming = c; stale = s; next = a })))
@@ -49,7 +48,7 @@ take_model : (n : ℕ) (ws : List ℕ) (c s a x : ℕ) → length ws ≡ 2 → n
 take_model n ws c zero a x h l true e = let q = ltb-true 0 0 e in absurd (omega arith)
 take_model n ws c zero a x h l false e = keep_model n ws c zero a x refl h l (ltb 0 c) refl
 take_model n ws c (suc s) a x h l true e = same_fetching refl refl (omega arith) refl
-take_model n ws c (suc s) a x h l false e = absurd (clash (sym (lt-ltb 0 (suc s) (omega arith)) ∙ e))
+take_model n ws c (suc s) a x h l false e = absurd (true≢false (sym (lt-ltb 0 (suc s) (omega arith)) ∙ e))
 
 pub take_is : (f : Fetch) (x : Opt ℕ) → SizedFetch f → fetching (fetch_take f (optional x)) ≡ take_code x (fetching f)
 take_is f none h = refl
@@ -88,16 +87,16 @@ want_is f h = want_shown f (fetch_room f) ∙ ap (λ b. (want_if (fetching f) b)
 pub take_sized : (f : Fetch) (x : Option ℕ) → SizedFetch f → SizedFetch (fetch_take f x)
 take_sized f None h = h
 take_sized f (Some x) h =
-    by_cond SizedFetch (ltb 0 f.stale) (λ e. record { array = h.array; ahead = h.ahead; asked = omega (arith, h.asked) })
-    (λ e. by_cond SizedFetch (ltb 0 f.coming) (λ e. let l = ltb-true 0 f.coming e in record { array = length-set f.words.at (f.words.count % 2) x ∙ h.array; ahead = omega (arith, h.ahead); asked = omega (arith, h.asked) }) (λ e. h))
+    cond_both (ltb 0 f.stale) _ _ SizedFetch (λ e. record { array = h.array; ahead = h.ahead; asked = omega (arith, h.asked) })
+    (λ e. cond_both (ltb 0 f.coming) _ _ SizedFetch (λ e. let l = ltb-true 0 f.coming e in record { array = length-set f.words.at (f.words.count % 2) x ∙ h.array; ahead = omega (arith, h.ahead); asked = omega (arith, h.asked) }) (λ e. h))
 
 pub goto_sized : (f : Fetch) (pc a : ℕ) → SizedFetch f → SizedFetch (fetch_goto f pc a)
 goto_sized f pc a h =
-    by_cond SizedFetch (eqb a (add pc 4)) (λ e. record { array = refl; ahead = omega (arith, h.ahead); asked = h.asked })
+    cond_both (eqb a (add pc 4)) _ _ SizedFetch (λ e. record { array = refl; ahead = omega (arith, h.ahead); asked = h.asked })
     (λ e. record { array = h.array; ahead = omega arith; asked = omega (arith, h.asked) })
 
 pub wanted_sized : (f : Fetch) → SizedFetch f → SizedFetch (fetch_wanted f)
 wanted_sized f h =
-    by_cond SizedFetch (fetch_room f)
-    (λ e. let p = ltb-true (add f.words.count f.coming) 2 (both_left (ltb (add f.words.count f.coming) 2) (ltb (add f.stale f.coming) 4) e) in let q = ltb-true (add f.stale f.coming) 4 (both_right (ltb (add f.words.count f.coming) 2) (ltb (add f.stale f.coming) 4) e) in record { array = h.array; ahead = omega (arith, h.ahead, h.asked); asked = omega (arith, h.ahead, h.asked) })
+    cond_both (fetch_room f) _ _ SizedFetch
+    (λ e. let p = ltb-true (add f.words.count f.coming) 2 (and_parts (ltb (add f.words.count f.coming) 2) (ltb (add f.stale f.coming) 4) e).0 in let q = ltb-true (add f.stale f.coming) 4 (and_parts (ltb (add f.words.count f.coming) 2) (ltb (add f.stale f.coming) 4) e).1 in record { array = h.array; ahead = omega (arith, h.ahead, h.asked); asked = omega (arith, h.ahead, h.asked) })
     (λ e. h)

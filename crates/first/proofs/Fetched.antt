@@ -1,12 +1,11 @@
 -- Code: what was fetched, and what is still to come, follows the core's address; each rule on it keeps that.
 use Rattle.std.proofs.Common.{◌≡◌, ℕ, zero, suc, ◌+◌, ◌/◌, ◌<◌, ◌≤◌, Bool, true, false, ◌&&◌, ltb, List, [], ◌∷◌, ◌++◌, length, drop, sym, refl, ap, ◌∙◌, subst, arith, length-append, drop_of_length-le}
 use mathlib.Core.Option.{Option, some, none}
-use Rattle.std.proofs.lemmas.Bool.{ltb-true}
+use Rattle.std.proofs.lemmas.Bool.{ltb-true, and_parts}
 use Rattle.isa.specs.Words.{add}
 use Rattle.isa.specs.Manual.{Code}
 use Rattle.pins.specs.View.{pop, push, CodeAllowed}
 use Rattle.first.specs.Model.{Fetching, took, took_use, take_code, rest, refetch, want, want_if}
-use Rattle.first.proofs.Tests.{both_right}
 
 -- the words stand at p and onward, then come the wanted addresses, then the next address to want
 abbrev pub Chain : Code → ℕ → List ℕ → List ℕ → ℕ → Type 0
@@ -67,7 +66,7 @@ pub want_kept : (c : Code) (p : ℕ) (f : Fetching) (ws : List ℕ) → Fetched 
 want_kept c p f ws h =
     let ahead = ltb (length f.words + f.coming) 2 in
     let few = ltb (f.stale + f.coming) 4 in
-    want_if_kept c p f ws h (ahead && few) (λ e. ltb-true (f.stale + f.coming) 4 (both_right ahead few e))
+    want_if_kept c p f ws h (ahead && few) (λ e. ltb-true (f.stale + f.coming) 4 (and_parts ahead few e).1)
 
 -- the next instruction is at a: behind this one, or elsewhere, and then all that is open is stale
 chain_rest : (c : Code) (p : ℕ) (xs ws : List ℕ) (f w : ℕ) (us : List ℕ) → xs ≡ w ∷ us → Chain c p xs ws f → Chain c (add p 4) (rest xs) ws f

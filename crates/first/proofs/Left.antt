@@ -1,11 +1,10 @@
 -- How many clocks an open request has left, by the ages of what is open.
 use Rattle.std.proofs.Common.{◌≡◌, ℕ, zero, suc, ◌+◌, ◌-◌, ◌<◌, ◌≤◌, true, leb, List, [], ◌∷◌, map, length, refl, ap, arith}
 use mathlib.Core.Option.{Option, some, none}
-use Rattle.std.proofs.lemmas.Bool.{leb-true}
+use Rattle.std.proofs.lemmas.Bool.{leb-true, and_parts}
 use Rattle.pins.specs.Outside.{Want, Wish, young, young1}
 use Rattle.pins.specs.View.{push}
 use Rattle.pins.specs.Waits.{ages, ages1}
-use Rattle.first.proofs.Tests.{both_left, both_right}
 
 -- none has waited for more than l clocks
 abbrev pub Young : ℕ → List ℕ → Type 0
@@ -14,11 +13,11 @@ Young l (g ∷ q) = (g ≤ l) × Young l q
 
 pub young_codes : (l : ℕ) (ws : List Want) → young l ws ≡ true → Young l (ages ws)
 young_codes l [] y = tt
-young_codes l (w ∷ ws) y = (leb-true w.age l (both_left (leb w.age l) (young l ws) y), young_codes l ws (both_right (leb w.age l) (young l ws) y))
+young_codes l (w ∷ ws) y = (leb-true w.age l (and_parts (leb w.age l) (young l ws) y).0, young_codes l ws (and_parts (leb w.age l) (young l ws) y).1)
 
 pub young_datas : (l : ℕ) (ws : List Wish) → young1 l ws ≡ true → Young l (ages1 ws)
 young_datas l [] y = tt
-young_datas l (w ∷ ws) y = (leb-true w.age l (both_left (leb w.age l) (young1 l ws) y), young_datas l ws (both_right (leb w.age l) (young1 l ws) y))
+young_datas l (w ∷ ws) y = (leb-true w.age l (and_parts (leb w.age l) (young1 l ws) y).0, young_datas l ws (and_parts (leb w.age l) (young1 l ws) y).1)
 
 -- an answer comes only to what is open
 abbrev pub AskedFor : Option ℕ → List ℕ → Type 0

@@ -1,6 +1,6 @@
-pub mod Tests
 pub mod Newest
 pub mod Queues
+pub mod FromFn
 pub mod Parts
 pub mod RoundTrip
 pub mod Ring
@@ -27,3 +27,4 @@ pub mod DataFalls
 pub mod RankFalls
 pub mod StoresOut
 pub mod GoesOn
+pub mod Posts

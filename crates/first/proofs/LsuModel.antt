@@ -1,9 +1,8 @@
 -- The load-store unit's rules are the model's.
-use Rattle.std.proofs.Common.{◌≡◌, ℕ, zero, suc, ◌-◌, ◌%◌, ◌<◌, ◌≤◌, Bool, true, false, cond, ◌&&◌, eqb, ltb, List, [], ◌∷◌, ◌++◌, length, get_or, take, drop, set, Some, None, Option, sym, refl, ap, ◌∙◌, subst, ap₂, arith, length-set}
+use Rattle.std.proofs.Common.{◌≡◌, ℕ, ◌-◌, ◌%◌, ◌<◌, Bool, true, false, cond, ◌&&◌, eqb, ltb, List, [], ◌∷◌, ◌++◌, length, take, drop, Some, None, Option, sym, refl, ap, ◌∙◌, subst, arith, length-set}
 use mathlib.Core.Option.{Option as Opt, some, none}
 use Rattle.std.proofs.lemmas.List.{length-take-le}
-use Rattle.std.proofs.lemmas.Bool.{eqb-true, eqb-false, ltb-true, ltb-false}
-use Rattle.isa.specs.Words.{add}
+use Rattle.std.proofs.lemmas.Bool.{eqb-true, eqb-false, ltb-true, ltb-false, and_parts, cond_both}
 use Rattle.pins.specs.PortWords.{optional, request_of}
 use Rattle.pins.specs.declared.ports.Request.{Request}
 use Rattle.pins.specs.declared.ports.Request.TheVariants.{Read, Write}
@@ -16,7 +15,6 @@ use Rattle.first.specs.declared.state.Lsu.{Lsu}
 use Rattle.first.specs.StoreRules.{no_store, entry, buffer_pop}
 use Rattle.first.specs.LsuRules.{OpenRequests, open_at, open_push, open_pop, load_answered, lsu_answered, lsu_take, lsu_room, drains, lsu_sent, lsu_drain, write_of, drain_request}
 use Rattle.first.specs.Model.{Storing, answer_load, answer, take_data, drain_if, drain_one, drain}
-use Rattle.first.proofs.Tests.{both_left, both_right, by_cond}
 use Rattle.first.proofs.Ring.{ring}
 use Rattle.first.proofs.Queues.{pushed_behind, oldest_taken, four_up}
 use Rattle.first.proofs.ModelOf.{waiting, opened, storing, SizedStores, SizedRequests}
@@ -77,7 +75,7 @@ answered_sized d x ForLoad h = record { stores = h.stores; requests = open_pop_s
 
 pub take_sized : (d : Lsu) (x : Option ℕ) → SizedLsu d → SizedLsu (lsu_take d x)
 take_sized d None h = h
-take_sized d (Some x) h = by_cond SizedLsu (eqb d.requests.count 0) (λ e. h) (λ e. answered_sized d x (open_at d.requests 0) h)
+take_sized d (Some x) h = cond_both (eqb d.requests.count 0) _ _ SizedLsu (λ e. h) (λ e. answered_sized d x (open_at d.requests 0) h)
 
 -- there is room for a request
 pub room_is : (d : Lsu) → SizedRequests d.requests → lsu_room d ≡ ltb (length (opened d.requests)) 4
@@ -91,8 +89,8 @@ pub record DrainIs (d : Lsu) (r : Option Request) : Type 0 where
 
 drain_sent : (d : Lsu) → SizedLsu d → drains d ≡ true → DrainIs d None
 drain_sent d h e =
-    let l : 0 < d.stores.count = ltb-true 0 d.stores.count (both_left (ltb 0 d.stores.count) (lsu_room d) e) in
-    let r : lsu_room d ≡ true = both_right (ltb 0 d.stores.count) (lsu_room d) e in
+    let l : 0 < d.stores.count = ltb-true 0 d.stores.count (and_parts (ltb 0 d.stores.count) (lsu_room d) e).0 in
+    let r : lsu_room d ≡ true = (and_parts (ltb 0 d.stores.count) (lsu_room d) e).1 in
     let l4 : d.requests.count < 4 = ltb-true d.requests.count 4 r in
     let p = pop_is d.stores l in
     let t : ltb (length (opened d.requests)) 4 ≡ true = sym (room_is d h.requests) ∙ r in

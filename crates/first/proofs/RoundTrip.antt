@@ -1,53 +1,19 @@
 -- What is written into the words is read back.
-use Rattle.std.proofs.Common.{◌≡◌, ℕ, ◌≤◌, false, ltb, List, ◌++◌, length, get_or, take, drop, Some, None, Option, sym, refl, ap, ◌∙◌, append_assoc, arith, length-append, length-drop}
+use Rattle.std.proofs.Common.{◌≡◌, ℕ, ◌≤◌, false, ltb, List, ◌++◌, length, take, drop, Some, Option, refl, ap, ◌∙◌, append_assoc, arith, length-append, length-drop}
 use Rattle.std.proofs.lemmas.List.{take_at, drop_at}
-use Rattle.std.proofs.lemmas.List.FromFn.{fill_by_all}
 use Rattle.std.proofs.lemmas.Bool.{le-ltb}
 use Rattle.std.proofs.lemmas.Bool.Decides.{nat_tests}
 use Rattle.isa.specs.declared.execute.Stop.{Stop}
-use Rattle.isa.specs.declared.execute.Stop.TheVariants.{EnvCall, Illegal, Misaligned}
 use Rattle.first.specs.declared.state.Fetch.{Fetch}
-use Rattle.first.specs.declared.state.Open.{Open}
-use Rattle.first.specs.declared.state.Open.TheVariants.{Acknowledgment, Load as ForLoad}
 use Rattle.first.specs.declared.state.Load.{Load}
 use Rattle.first.specs.declared.state.Load.TheVariants.{Idle, Waiting, Answered}
 use Rattle.first.specs.declared.state.Core.{Core}
-use Rattle.first.specs.StoreRules.{StoreBuffer, no_store}
-use Rattle.first.specs.LsuRules.{OpenRequests, open_at}
-use Rattle.first.specs.Layout.{word, mark, stop_of, stop_tag, fetch_of, fetch_words, load_of, load_words, open_of, open_tag, requests_of, requests_words, stores_of, stores_words, head_words, core_of, core_words, decode, Shaped}
+use Rattle.first.specs.StoreRules.{StoreBuffer}
+use Rattle.first.specs.LsuRules.{OpenRequests}
+use Rattle.first.specs.Back.{stop_back, fetch_back, load_back, requests_back, stores_back}
+use Rattle.first.specs.Layout.{word, mark, fetch_words, load_of, load_words, requests_of, requests_words, stores_of, stores_words, head_words, core_of, core_words, decode, Shaped}
 
 -- part by part
-stop_back : (h : Option Stop) → stop_of (stop_tag h) ≡ h
-stop_back None = refl
-stop_back (Some EnvCall) = refl
-stop_back (Some Illegal) = refl
-stop_back (Some Misaligned) = refl
-
-fetch_back : (f : Fetch) → length f.words.at ≡ 2 → fetch_of (fetch_words f) ≡ f
-fetch_back f h =
-    let e = fill_by_all (λ (k : ℕ). get_or f.words.at k 0) f.words.at 2 0 h (λ k l. refl) in
-    λ i. record { words = record { count = f.words.count; at = sym e i }; coming = f.coming; stale = f.stale; next = f.next }
-
-load_back : (d : Load) → load_of (load_words d) ≡ d
-load_back Idle = refl
-load_back (Waiting a) = refl
-load_back (Answered a x) = refl
-
-open_back : (o : Open) → open_of (open_tag o) ≡ o
-open_back Acknowledgment = refl
-open_back ForLoad = refl
-
-requests_back : (q : OpenRequests) → length q.at ≡ 4 → requests_of (requests_words q) ≡ q
-requests_back q h =
-    let e = fill_by_all (λ (k : ℕ). open_of (open_tag (open_at q k))) q.at 4 Acknowledgment h (λ k l. sym (open_back (open_at q k))) in
-    λ i. record { count = q.count; at = sym e i }
-
-stores_back : (b : StoreBuffer) → length b.at ≡ 8 → stores_of (stores_words b) ≡ b
-unfolding stores_of stores_words
-stores_back b h =
-    let e = fill_by_all (λ (k : ℕ). get_or b.at k no_store) b.at 8 no_store h (λ k l. refl) in
-    λ i. record { begin = b.begin; count = b.count; at = sym e i }
-
 stores_length : (b : StoreBuffer) → length (stores_words b) ≡ 18
 unfolding stores_words
 stores_length b = refl
@@ -87,7 +53,7 @@ core_back k rest s =
     let d = at_part ((A ++ B) ++ C) D (E ++ (F ++ rest)) w 13 5 (simp append_assoc) l3 refl in
     let e = at_part (((A ++ B) ++ C) ++ D) E (F ++ rest) w 18 18 (simp append_assoc) l4 le in
     let f = at_part ((((A ++ B) ++ C) ++ D) ++ E) F rest w 36 32 (simp append_assoc) l5 s.regs in
-    core_same k f (fetch_back k.fetch s.fetch) (ap stores_of e ∙ stores_back k.lsu.stores s.stores) (ap requests_of d ∙ requests_back k.lsu.requests s.requests) (ap load_of c ∙ load_back k.lsu.load) (stop_back k.stopped)
+    core_same k f (fetch_back k.fetch s.fetch) (ap stores_of e ∙ stores_back k.lsu.stores s.stores) (ap requests_of d ∙ requests_back k.lsu.requests s.requests) (ap load_of c ∙ load_back k.lsu.load tt) (stop_back k.stopped tt)
 
 words_length : (k : Core) → Shaped k → length (core_words k) ≡ 68
 unfolding core_words

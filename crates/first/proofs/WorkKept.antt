@@ -1,7 +1,7 @@
 -- The rule of the instruction at work keeps the invariant.
 use Rattle.std.proofs.Common.{◌≡◌, ℕ, suc, ◌/◌, ◌<◌, ◌≤◌, Bool, true, false, eqb, ltb, List, [], ◌∷◌, ◌++◌, length, sym, refl, ap, ◌∙◌, subst, append_assoc, append-nil, arith, length-append}
 use mathlib.Core.Option.{Option, some, none}
-use Rattle.std.proofs.lemmas.Bool.{ltb-true, eqb-true}
+use Rattle.std.proofs.lemmas.Bool.{ltb-true, eqb-true, true≢false}
 use Rattle.isa.specs.Words.{pick, add, opt, put}
 use Rattle.isa.specs.Manual.{Code, Mem, device, S, Ret, Ev, writes, asks, goes, run, step, asked, wrote, after1}
 use Rattle.isa.specs.Runs.{At}
@@ -27,7 +27,6 @@ use Rattle.first.specs.declared.state.Load.{Load}
 use Rattle.first.specs.declared.state.Load.TheVariants.{Idle, Waiting, Answered}
 use Rattle.first.specs.declared.state.Action.TheVariants.{Wait, Halt, Write, Push, Ask}
 use Rattle.first.specs.Model.{Fetching, Model, lookup, if_drained, loading, act, work_on, decide, Did, retired, apply}
-use Rattle.first.proofs.Tests.{clash}
 use Rattle.first.proofs.Fetched.{refetch_kept, at_word}
 use Rattle.first.proofs.Buffered.{row_evs, row_evs_snoc, final, final_push, final_ask, lookup_right}
 use Rattle.first.proofs.Requested.{Acks, Tags, tags_count, acks_load}
@@ -76,7 +75,7 @@ is_load (Stores a x) = false
 is_load (Halts h) = false
 
 no_load : (x y : Outcome) (r : Reg) (b : ℕ) → x ≡ y → x ≡ Loads r b → is_load y ≡ false → ⊥
-no_load x y r b e q n = clash (sym (ap is_load q) ∙ (ap is_load e ∙ n))
+no_load x y r b e q n = true≢false (sym (ap is_load q) ∙ (ap is_load e ∙ n))
 
 how_few : (h : Stop) → how h < 3
 how_few EnvCall = omega arith
@@ -180,14 +179,14 @@ module _ (c : Code) (m : Mem) (a : ℕ) (v : View) where
         h.runs.did h.room
 
     device_kept : (r : Reg) (b : ℕ) → Inv c m a (K Idle) v → outcome ≡ Loads r b → device b ≡ true → (t : Bool) → (t ≡ true → length ks < 4) → (rr : List Store) → row ≡ rr → Keeps (apply (K Idle) (pick t (if_drained rr (Ask b)) Wait))
-    device_kept r b h e dv true t [] q = ask_kept r b h e true t (λ n. absurd (clash (sym dv ∙ n))) (λ n. q)
+    device_kept r b h e dv true t [] q = ask_kept r b h e true t (λ n. absurd (true≢false (sym dv ∙ n))) (λ n. q)
     device_kept r b h e dv true t (s ∷ rr) q = h
     device_kept r b h e dv false t rr q = h
 
     data_kept : (r : Reg) (b : ℕ) → Inv c m a (K Idle) v → outcome ≡ Loads r b → device b ≡ false → (t : Bool) → (t ≡ true → length ks < 4) → (o : Option ℕ) → lookup row b ≡ o
         → Keeps (apply (K Idle) (opt o (pick t (Ask b) Wait) (λ x. Write r x (add p 4))))
     data_kept r b h e dv t lt none q =
-        ask_kept r b h e t lt (λ n. sym (lookup_right (flushed v) row b n ∙ ap (λ (o : Option ℕ). opt o (flushed v (b / 4)) (λ x. x)) q)) (λ n. absurd (clash (sym n ∙ dv)))
+        ask_kept r b h e t lt (λ n. sym (lookup_right (flushed v) row b n ∙ ap (λ (o : Option ℕ). opt o (flushed v (b / 4)) (λ x. x)) q)) (λ n. absurd (true≢false (sym n ∙ dv)))
     data_kept r b h e dv t lt (some x) q =
         let is_x : final v row (b / 4) ≡ x = lookup_right (flushed v) row b dv ∙ ap (λ (o : Option ℕ). opt o (flushed v (b / 4)) (λ x. x)) q in
         retire_kept c m a (K Idle) v w us ws refl h.tags h (put gs r.number x) (add p 4) row (record { pc = p; reg = r.number; val = pick (eqb r.number 0) 0 x }) []

@@ -10,6 +10,7 @@
 --   36..68  registers
 use Rattle.std.specs.Prelude.{◌≡◌, ℕ, ◌+◌, cond, List, [], ◌∷◌, ◌++◌, length, take, drop, Some, None, Option, ◌==◌, nat_lt, slice_index, slice_index_or}
 use Rattle.isa.specs.Executing.{how}
+use Rattle.isa.specs.declared.regs.Regs.{Regs}
 use Rattle.isa.specs.declared.execute.Stop.{Stop}
 use Rattle.isa.specs.declared.execute.Stop.TheVariants.{EnvCall, Illegal, Misaligned}
 use Rattle.first.specs.declared.state.Fetch.{Fetch}
@@ -31,6 +32,9 @@ mark = 1179210323
 -- words to state, part by part
 abbrev pub stop_of : ℕ → Option Stop
 stop_of x = cond (x == 0) None (Some (cond (x == 1) EnvCall (cond (x == 2) Illegal Misaligned)))
+
+abbrev pub regs_of : List ℕ → Regs
+regs_of w = record { values = w }
 
 abbrev pub fetch_of : List ℕ → Fetch
 fetch_of w = record { words = record { count = word w 0; at = word w 1 ∷ word w 2 ∷ [] }; coming = word w 3; stale = word w 4; next = word w 5 }

@@ -5,6 +5,7 @@ pub mod LsuRules
 pub mod WorkRules
 pub mod Step
 pub mod Layout
+pub mod Back
 pub mod Model
 pub mod Stands
 pub mod Parts

@@ -21,13 +21,13 @@ impl Load {
     }
 }
 
-impl Store {
-    fn request(self) -> Request
-        ensures { result ≡ write_of self }
-    {
+impl From<Store> for Request {
+    ghost from_gives = { λ store request. request ≡ write_of store };
+
+    fn from(store: Store) -> Request {
         Request::Write {
-            address: self.address,
-            value: self.value,
+            address: store.address,
+            value: store.value,
         }
     }
 }
@@ -96,6 +96,6 @@ impl Lsu {
         let store = self.stores.entry(0);
         self.stores.pop();
         self.requests.push(Open::Acknowledgment);
-        Some(store.request())
+        Some(store.into())
     }
 }

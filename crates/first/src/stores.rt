@@ -13,6 +13,7 @@ fn here(stores: &StoreBuffer, address: u32, n: u32) -> bool
 
 // The place of the newest waiting store to the word at `address`. The project asks for this form: a loop with a label
 // yields the place.
+#[tactic(auto, using(crate::proofs::Newest::below_found, crate::proofs::Newest::below_next), unfolding(crate::specs::StoreRules::newest))]
 fn newest(stores: &StoreBuffer, address: u32) -> Option<u32>
     ensures { result ≡ newest stores.now address }
 {

@@ -1,39 +1,19 @@
 // The core in its lent words: read from them, and written back.
-ghost use Rattle.std.specs.Prelude.{◌≡◌, ℕ, ◌+◌, ◌<◌, ◌≤◌, ◌++◌, List, length, drop, ⊤};
-ghost use Rattle.first.specs.Layout.{stop_of, fetch_of, load_of, open_of, requests_of, store_of, stores_of, core_of, decode, stop_tag, head_words, fetch_words, load_words, open_tag, requests_words, stores_words, core_words, Shaped};
+ghost use Rattle.std.specs.Prelude.{◌≡◌, ℕ, ◌+◌, ◌<◌, ◌≤◌, ◌++◌, List, [], ◌∷◌, length, drop, ⊤};
+ghost use Rattle.first.specs.Layout.{word, stop_of, regs_of, fetch_of, load_of, open_of, requests_of, store_of, stores_of, core_of, decode, stop_tag, head_words, fetch_words, load_words, open_tag, requests_words, stores_words, core_words, Shaped};
+ghost use Rattle.first.specs.Back.{stop_back, regs_back, fetch_back, load_back, requests_back, stores_back};
 
 use crate::state::{Core, Fetch, Load, Lsu, Number, Open, OpenRequests, Store, StoreBuffer};
 use isa::execute::Stop;
 use isa::regs::Regs;
 use rings::queue::Queue;
 use rings::ring::Ring;
+use std::array;
 
 // As few words as a core is lent.
 pub const LENT: usize = 65536;
-// As many of them as it uses.
-pub const USED: usize = 68;
 // What the first word of a first core is.
 const MARK: u32 = 0x4649_5253;
-
-fn stop_from(tag: u32) -> Option<Stop>
-    ensures { result ≡ stop_of tag }
-{
-    match tag {
-        0 => None,
-        1 => Some(Stop::EnvCall),
-        2 => Some(Stop::Illegal),
-        _ => Some(Stop::Misaligned),
-    }
-}
-
-fn stop_word(stopped: Option<Stop>) -> u32
-    ensures { result ≡ stop_tag stopped }
-{
-    match stopped {
-        None => 0,
-        Some(stop) => 1 + u32::from(stop),
-    }
-}
 
 // A part of the core, which stands in N words.
 trait InWords<const N: usize>: Sized {
@@ -53,6 +33,35 @@ trait InWords<const N: usize>: Sized {
     fn words(&self) -> [u32; N]
         ensures is { result ≡ words_of self.now }
         ensures shaped { Shaped self.now };
+
+    // What is written is read back.
+    ghost back: { (part : Self) → Shaped part → of (words_of part) ≡ part };
+}
+
+impl InWords<1> for Option<Stop> {
+    ghost of = { λ w. stop_of (word w 0) };
+
+    ghost words_of = { λ stopped. stop_tag stopped ∷ [] };
+
+    ghost Shaped = { λ _. ⊤ };
+
+    ghost back = { stop_back };
+
+    fn load(w: &[u32]) -> Option<Stop> {
+        match w[0] {
+            0 => None,
+            1 => Some(Stop::EnvCall),
+            2 => Some(Stop::Illegal),
+            _ => Some(Stop::Misaligned),
+        }
+    }
+
+    fn words(&self) -> [u32; 1] {
+        match *self {
+            None => [0],
+            Some(stop) => [1 + u32::from(stop)],
+        }
+    }
 }
 
 impl InWords<6> for Fetch {
@@ -61,6 +70,8 @@ impl InWords<6> for Fetch {
     ghost words_of = { fetch_words };
 
     ghost Shaped = { λ f. length f.words.at ≡ 2 };
+
+    ghost back = { fetch_back };
 
     fn load(w: &[u32]) -> Fetch {
         Fetch {
@@ -86,6 +97,8 @@ impl InWords<3> for Load {
     ghost words_of = { load_words };
 
     ghost Shaped = { λ _. ⊤ };
+
+    ghost back = { load_back };
 
     fn load(w: &[u32]) -> Load {
         match w[0] {
@@ -137,10 +150,12 @@ impl InWords<5> for OpenRequests {
 
     ghost Shaped = { λ q. length q.at ≡ 4 };
 
+    ghost back = { requests_back };
+
     fn load(w: &[u32]) -> OpenRequests {
         Queue {
             count: w[0],
-            at: [w[1].into(), w[2].into(), w[3].into(), w[4].into()],
+            at: array::from_fn(|i| w[1 + i].into()),
         }
     }
 
@@ -167,24 +182,18 @@ impl InWords<18> for StoreBuffer {
 
     ghost Shaped = { λ b. length b.at ≡ 8 };
 
+    ghost back = { stores_back };
+
     #[tactic(auto, unfolding(crate::specs::Layout::stores_of))]
     fn load(w: &[u32]) -> StoreBuffer {
         Ring {
             begin: w[0],
             count: w[1],
-            at: [
-                store_at(w, 2),
-                store_at(w, 4),
-                store_at(w, 6),
-                store_at(w, 8),
-                store_at(w, 10),
-                store_at(w, 12),
-                store_at(w, 14),
-                store_at(w, 16),
-            ],
+            at: array::from_fn(|i| store_at(w, 2 + 2 * i)),
         }
     }
 
+    // Written out: no method flattens eight pairs into one array.
     #[tactic(auto, unfolding(crate::specs::Layout::stores_words))]
     fn words(&self) -> [u32; 18] {
         let [a, b, c, d, e, f, g, h] = self.at;
@@ -196,14 +205,27 @@ impl InWords<18> for StoreBuffer {
     }
 }
 
-// By a copy of their own, which the compiler moves in few large pieces.
-fn register_words(regs: &Regs) -> [u32; 32]
-    ensures is { result ≡ regs.now.values }
-    ensures shaped { length regs.now.values ≡ 32 }
-{
-    let mut values = [0u32; 32];
-    values.copy_from_slice(&regs.values);
-    values
+impl InWords<32> for Regs {
+    ghost of = { regs_of };
+
+    ghost words_of = { λ g. g.values };
+
+    ghost Shaped = { λ g. length g.values ≡ 32 };
+
+    ghost back = { regs_back };
+
+    fn load(w: &[u32]) -> Regs {
+        let mut values = [0u32; 32];
+        values.copy_from_slice(w);
+        Regs { values }
+    }
+
+    // By a copy of their own, which the compiler moves in few large pieces.
+    fn words(&self) -> [u32; 32] {
+        let mut values = [0u32; 32];
+        values.copy_from_slice(&self.values);
+        values
+    }
 }
 
 impl Core {
@@ -212,20 +234,18 @@ impl Core {
         requires { 65536 ≤ length w.now }
         ensures { result ≡ core_of w.now }
     {
-        let mut values = [0u32; 32];
-        values.copy_from_slice(&w[36..68]);
         let lsu = Lsu {
             stores: StoreBuffer::load(&w[18..36]),
             requests: OpenRequests::load(&w[13..18]),
             load: Load::load(&w[10..13]),
         };
         Core {
-            regs: Regs { values },
+            regs: Regs::load(&w[36..68]),
             pc: w[1],
             number: Number(w[2]),
             fetch: Fetch::load(&w[4..10]),
             lsu,
-            stopped: stop_from(w[3]),
+            stopped: Option::load(&w[3..4]),
         }
     }
 
@@ -246,11 +266,12 @@ impl Core {
         ensures is { w.new ≡ core_words self.now ++ drop 68 w.old }
         ensures shaped { Shaped self.now }
     {
-        w[0..4].copy_from_slice(&[MARK, self.pc, self.number.0, stop_word(self.stopped)]);
+        let [stop]: [u32; 1] = self.stopped.words();
+        w[0..4].copy_from_slice(&[MARK, self.pc, self.number.0, stop]);
         w[4..10].copy_from_slice(&self.fetch.words());
         w[10..13].copy_from_slice(&self.lsu.load.words());
         w[13..18].copy_from_slice(&self.lsu.requests.words());
         w[18..36].copy_from_slice(&self.lsu.stores.words());
-        w[36..68].copy_from_slice(&register_words(&self.regs));
+        w[36..68].copy_from_slice(&self.regs.words());
     }
 }

@@ -1,7 +1,8 @@
 // The instruction at work: what it does in a clock is decided from the state, and then done.
 ghost use Rattle.std.specs.Prelude.{◌≡◌, ℕ, ◌<◌, ◌≤◌, if◌then◌else◌};
 ghost use Rattle.first.specs.WorkRules.{core_start, no_stores, ask_device, forward_or_ask, load_action, outcome_action, word_action, halted, action, retire, act, nothing, retired, effect};
-ghost use Rattle.first.specs.declared.state.Action.TheVariants.{Wait};
+ghost use Rattle.first.specs.declared.state.Action.TheVariants.{Wait, Write};
+ghost use Rattle.isa.specs.Words.{add};
 ghost use Rattle.first.specs.Step.{next, outputs};
 ghost use Rattle.first.specs.StoreRules.{forwarded};
 
@@ -50,16 +51,23 @@ impl Core {
         Action::when(self.lsu.room() && self.no_stores(), Action::Ask { address })
     }
 
+    // The load is done, with the word that it got.
+    fn loaded(&self, rd: Reg, value: u32) -> Action
+        ensures { result ≡ Write rd value (add self.now.pc 4) }
+    {
+        Action::Write {
+            rd,
+            value,
+            next: self.pc.wrapping_add(4),
+        }
+    }
+
     // A word of data comes from the newest waiting store to it, or is requested.
     fn ask_data(&self, rd: Reg, address: u32) -> Action
         ensures { result ≡ forward_or_ask self.now rd address (forwarded self.now.lsu.stores address) }
     {
         match forward(&self.lsu.stores, address) {
-            Some(value) => Action::Write {
-                rd,
-                value,
-                next: self.pc.wrapping_add(4),
-            },
+            Some(value) => self.loaded(rd, value),
             None => Action::when(self.lsu.room(), Action::Ask { address }),
         }
     }
@@ -76,11 +84,7 @@ impl Core {
                 }
             }
             Load::Waiting { .. } => Action::Wait,
-            Load::Answered { value, .. } => Action::Write {
-                rd,
-                value,
-                next: self.pc.wrapping_add(4),
-            },
+            Load::Answered { value, .. } => self.loaded(rd, value),
         }
     }
 
