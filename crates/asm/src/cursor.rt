@@ -3,11 +3,11 @@ ghost use Rattle.std.specs.Prelude.{◌≡◌, ◌+◌, ◌*◌, ◌%◌, ◌^�
 ghost use Rattle.asm.specs.Cursors.{here};
 
 use crate::error::{Fault, Problem};
-use crate::pseudo::{Pseudo, constant_size};
+use crate::pseudo::{Pseudo, takes_both};
 use crate::text::{Statement, number};
 
 // Whether it is code or data that is placed, and where the next word of each goes.
-#[derive(Clone, Copy)]
+#[derive(Clone, Copy, Debug, PartialEq, Eq)]
 pub struct Cursor {
     pub in_data: bool,
     code: u32,
@@ -101,17 +101,22 @@ impl Cursor {
 
 // The only operand, a number that is a multiple of 4.
 fn fixed_address(s: Statement) -> Result<u32, Fault> {
-    match number(s.operand(0)?) {
-        Ok(address) if address % 4 != 0 => Err(Fault::operand(0, Problem::Misaligned(address))),
-        Ok(address) => Ok(address),
-        Err(problem) => Err(Fault::operand(0, problem)),
-    }
+    s.read(0, |text| aligned(number(text)?))
 }
 
+// An address, if it is a multiple of 4.
+pub(crate) fn aligned(address: u32) -> Result<u32, Problem> {
+    if address % 4 != 0 {
+        return Err(Problem::Misaligned(address));
+    }
+    Ok(address)
+}
+
+// How many words an instruction has.
 fn instruction_size(s: Statement) -> Result<usize, Fault> {
     match Pseudo::from_name(s.name) {
-        Some(Pseudo::Li) => constant_size(s),
-        Some(Pseudo::La) => Ok(2),
+        Some(Pseudo::Li) if !takes_both(s)? => Ok(1),
+        Some(Pseudo::Li | Pseudo::La) => Ok(2),
         _ => Ok(1),
     }
 }
