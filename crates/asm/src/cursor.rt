@@ -3,11 +3,11 @@ ghost use Rattle.std.specs.Prelude.{◌≡◌, ◌+◌, ◌*◌, ◌%◌, ◌^�
 ghost use Rattle.asm.specs.Cursors.{here};
 
 use crate::error::{Fault, Problem};
-use crate::pseudo::{Pseudo, takes_both};
+use crate::pseudo::Pseudo;
 use crate::text::{Statement, number};
 
 // Whether it is code or data that is placed, and where the next word of each goes.
-#[derive(Clone, Copy, Debug, PartialEq, Eq)]
+#[derive(Clone, Copy)]
 pub struct Cursor {
     pub in_data: bool,
     code: u32,
@@ -62,10 +62,7 @@ impl Cursor {
     // Where it stands after a statement.
     pub fn after(self, s: Statement) -> Result<Cursor, Fault> {
         match s.name {
-            ".org" => {
-                s.expect(1)?;
-                Ok(self.at(fixed_address(s)?))
-            }
+            ".org" => Ok(self.at(fixed_address(s)?)),
             ".data" => self.to_data(s),
             ".text" => {
                 s.expect(0)?;
@@ -82,18 +79,14 @@ impl Cursor {
 
     // `.data address`, or `.data` to go on where the data stopped.
     fn to_data(self, s: Statement) -> Result<Cursor, Fault> {
-        let data = if s.count() == 0 {
-            self.data
+        let address = if s.count() == 0 {
+            self.data.ok_or(Problem::NoDataAddress)?
         } else {
-            s.expect(1)?;
-            Some(fixed_address(s)?)
+            fixed_address(s)?
         };
-        if data.is_none() {
-            return Err(Fault::name(Problem::NoDataAddress));
-        }
         Ok(Cursor {
             in_data: true,
-            data,
+            data: Some(address),
             ..self
         })
     }
@@ -101,6 +94,7 @@ impl Cursor {
 
 // The only operand, a number that is a multiple of 4.
 fn fixed_address(s: Statement) -> Result<u32, Fault> {
+    s.expect(1)?;
     s.read(0, |text| aligned(number(text)?))
 }
 
@@ -115,8 +109,7 @@ pub(crate) fn aligned(address: u32) -> Result<u32, Problem> {
 // How many words an instruction has.
 fn instruction_size(s: Statement) -> Result<usize, Fault> {
     match Pseudo::from_name(s.name) {
-        Some(Pseudo::Li) if !takes_both(s)? => Ok(1),
-        Some(Pseudo::Li | Pseudo::La) => Ok(2),
+        Some(p) if p.takes_both(s)? => Ok(2),
         _ => Ok(1),
     }
 }

@@ -1,4 +1,7 @@
 // What can be wrong with a program's text.
+ghost use Rattle.std.specs.Prelude.{◌≡◌, Some, None};
+ghost use Rattle.asm.specs.declared.error.Problem.TheVariants.{NoMemory};
+
 use std::alloc::{AllocError, AllocFailed};
 use std::error::Error;
 use std::fmt;
@@ -77,12 +80,16 @@ impl Problem {
 }
 
 impl From<AllocError> for Problem {
+    ghost from_gives = { λ _ p. p ≡ NoMemory };
+
     fn from(_e: AllocError) -> Problem {
         Problem::NoMemory
     }
 }
 
 impl<T: Drop> From<AllocFailed<T>> for Problem {
+    ghost from_gives = { λ _ p. p ≡ NoMemory };
+
     fn from(_e: AllocFailed<T>) -> Problem {
         Problem::NoMemory
     }
@@ -96,14 +103,20 @@ pub struct Fault {
 }
 
 impl Fault {
-    pub fn name(problem: Problem) -> Fault {
+    pub fn name(problem: Problem) -> Fault
+        ensures problem { result.problem ≡ problem }
+        ensures place { result.place ≡ None }
+    {
         Fault {
             problem,
             place: None,
         }
     }
 
-    pub fn operand(place: usize, problem: Problem) -> Fault {
+    pub fn operand(place: usize, problem: Problem) -> Fault
+        ensures problem { result.problem ≡ problem }
+        ensures place { result.place ≡ Some place }
+    {
         Fault {
             problem,
             place: Some(place),
@@ -112,6 +125,8 @@ impl Fault {
 }
 
 impl From<Problem> for Fault {
+    ghost from_gives = { λ p f. (f.problem ≡ p) × (f.place ≡ None) };
+
     fn from(problem: Problem) -> Fault {
         Fault::name(problem)
     }

@@ -109,12 +109,8 @@ pub(crate) fn lookup<T: Copy>(table: &[(&str, T)], name: &str) -> Option<T> {
         .map(|(_, meaning)| *meaning)
 }
 
-impl Mnemonic {
-    pub fn from_name(name: &str) -> Option<Mnemonic> {
-        lookup(&MNEMONICS, name)
-    }
-
-    pub fn of(instr: Instr) -> Mnemonic {
+impl From<Instr> for Mnemonic {
+    fn from(instr: Instr) -> Mnemonic {
         match instr {
             Instr::Lui { .. } => Mnemonic::Lui,
             Instr::Auipc { .. } => Mnemonic::Auipc,
@@ -128,6 +124,12 @@ impl Mnemonic {
             Instr::MulDiv { op, .. } => Mnemonic::MulDiv(op),
             Instr::Ecall => Mnemonic::Ecall,
         }
+    }
+}
+
+impl Mnemonic {
+    pub fn from_name(name: &str) -> Option<Mnemonic> {
+        lookup(&MNEMONICS, name)
     }
 
     // None for what is no instruction: an immediate's subtraction.

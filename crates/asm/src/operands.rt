@@ -45,11 +45,7 @@ impl<'a> Statement<'a> {
 
     // An operand by its place, from 0.
     pub fn operand(self, place: usize) -> Result<&'a str, Fault> {
-        let text = self.text(place);
-        if text.is_empty() {
-            return Err(Fault::name(Problem::MissingOperand));
-        }
-        Ok(text)
+        self.read(place, Ok)
     }
 
     // What an operand's text is read as.
@@ -60,7 +56,7 @@ impl<'a> Statement<'a> {
     ) -> Result<T, Fault>
         requires { F.IsAlwaysCallable f }
     {
-        f(self.operand(place)?).map_err(|problem| Fault::operand(place, problem))
+        read(place, self.text(place), f)
     }
 
     pub fn register(self, place: usize) -> Result<Reg, Fault> {
@@ -99,8 +95,11 @@ impl<'s, 'a> Located<'s, 'a> {
         requires { F.IsAlwaysCallable f }
     {
         self.statement.expect_some()?;
-        for place in 0..self.statement.count() {
-            f(place, self.value(place)?)?;
+        for (place, text) in self.statement.operands.split(',').enumerate() {
+            f(
+                place,
+                read(place, text.trim(), |text| value(self.symbols, text))?,
+            )?;
         }
         Ok(())
     }
@@ -115,6 +114,20 @@ impl<'s, 'a> Located<'s, 'a> {
         self.statement
             .read(place, |text| address(self.symbols, text))
     }
+}
+
+// What the text of the operand at `place` is read as.
+fn read<'a, T, F: FnOnce(&'a str) -> Result<T, Problem>>(
+    place: usize,
+    text: &'a str,
+    f: F,
+) -> Result<T, Fault>
+    requires { F.IsAlwaysCallable f }
+{
+    if text.is_empty() {
+        return Err(Fault::name(Problem::MissingOperand));
+    }
+    f(text).map_err(|problem| Fault::operand(place, problem))
 }
 
 // `offset(register)`, where no offset is 0.

@@ -8,7 +8,7 @@ pub struct Placed {
 }
 
 // A program: its code, its first data, what devices answer in order, and where it starts. Code and data are in order of address.
-#[derive(Debug, PartialEq, Eq, Drop)]
+#[derive(Drop)]
 pub struct Program {
     pub code: Vec<Placed>,
     pub data: Vec<Placed>,

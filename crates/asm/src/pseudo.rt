@@ -14,7 +14,7 @@ use crate::text::{Statement, is_number, number};
 use isa::instr::{AluOp, Cond, Instr};
 use isa::reg::Reg;
 
-#[derive(Clone, Copy, PartialEq, Eq)]
+#[derive(Clone, Copy)]
 pub enum Pseudo {
     Nop,
     Ret,
@@ -66,10 +66,25 @@ impl Pseudo {
     pub fn from_name(name: &str) -> Option<Pseudo> {
         lookup(&PSEUDOS, name)
     }
+
+    // Whether it takes both halves of a constant: `la` does, and `li` unless one is enough and it is a number, known before any label.
+    pub(crate) fn takes_both(self, s: Statement) -> Result<bool, Fault> {
+        match self {
+            Pseudo::La => Ok(true),
+            Pseudo::Li => s.read(1, |text| {
+                if !is_number(text) {
+                    return Ok(true);
+                }
+                let n = number(text)?;
+                Ok(lower(n) != 0 && lower(n) != n)
+            }),
+            _ => Ok(false),
+        }
+    }
 }
 
 // One word or two, in order.
-#[derive(Clone, Copy, Debug, PartialEq, Eq)]
+#[derive(Clone, Copy)]
 pub struct Words {
     pub first: u32,
     pub second: Option<u32>,
@@ -84,17 +99,6 @@ impl Words {
             second: None,
         }
     }
-}
-
-// Whether `li` takes both halves of its value: not if one is enough, and it is a number, known before any label.
-pub fn takes_both(s: Statement) -> Result<bool, Fault> {
-    s.read(1, |text| {
-        if !is_number(text) {
-            return Ok(true);
-        }
-        let n = number(text)?;
-        Ok(lower(n) != 0 && lower(n) != n)
-    })
 }
 
 // Loads a constant in one word, or in two if `split`.
@@ -132,8 +136,7 @@ impl Located<'_, '_> {
             Pseudo::J => self.jump(ZERO)?,
             Pseudo::Call => self.jump(RA)?,
             Pseudo::Jr => self.jump_register(ZERO)?,
-            Pseudo::Li => return self.constant(takes_both(s)?),
-            Pseudo::La => return self.constant(true),
+            Pseudo::Li | Pseudo::La => return self.constant(p.takes_both(s)?),
             Pseudo::WithNumber(op, imm) => {
                 let [rd, rs1] = s.registers::<2>(2)?;
                 word(Instr::AluImm { op, rd, rs1, imm }, 0)?

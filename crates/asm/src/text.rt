@@ -4,7 +4,7 @@ ghost use Rattle.std.specs.Prelude.{◌≤◌};
 use crate::error::Problem;
 
 // What stands on a line, without its comment.
-#[derive(Clone, Copy, Debug, PartialEq, Eq)]
+#[derive(Clone, Copy)]
 pub struct Line<'a> {
     // The labels, with a colon between two.
     pub labels: Option<&'a str>,
@@ -12,14 +12,14 @@ pub struct Line<'a> {
 }
 
 // An instruction or a directive: its name and the text after that.
-#[derive(Clone, Copy, Debug, PartialEq, Eq)]
+#[derive(Clone, Copy)]
 pub struct Statement<'a> {
     pub name: &'a str,
     pub operands: &'a str,
 }
 
 pub fn split_line<'a>(line: &'a str) -> Line<'a> {
-    let text = before(before(before(line, "#"), ";"), "//");
+    let text = ["#", ";", "//"].into_iter().fold(line, before);
     let (labels, rest) = match text.rsplit_once(':') {
         Some((labels, rest)) => (Some(labels), rest),
         None => (None, text),
