@@ -82,7 +82,7 @@ pub struct Located<'s, 'a> {
     pub cursor: Cursor,
 }
 
-impl<'s, 'a> Located<'s, 'a> {
+impl Located<'_, '_> {
     pub fn value(self, place: usize) -> Result<u32, Fault> {
         self.statement.read(place, |text| value(self.symbols, text))
     }
@@ -96,10 +96,8 @@ impl<'s, 'a> Located<'s, 'a> {
     {
         self.statement.expect_some()?;
         for (place, text) in self.statement.operands.split(',').enumerate() {
-            f(
-                place,
-                read(place, text.trim(), |text| value(self.symbols, text))?,
-            )?;
+            let number = read(place, text.trim(), |text| value(self.symbols, text))?;
+            f(place, number)?;
         }
         Ok(())
     }
