@@ -70,6 +70,7 @@ impl fmt::Display for AsmError<'_> {
 impl Error for AsmError<'_> {}
 
 impl Problem {
+    // The same, on a line, with the text that is at fault.
     pub(crate) fn at<'a>(self, line: usize, text: &'a str) -> AsmError<'a> {
         AsmError {
             line,

@@ -43,12 +43,7 @@ impl<'a> Statement<'a> {
         self.operands.split(',').nth(place).unwrap_or("").trim()
     }
 
-    // An operand by its place, from 0.
-    pub fn operand(self, place: usize) -> Result<&'a str, Fault> {
-        self.read(place, Ok)
-    }
-
-    // What an operand's text is read as.
+    // What an operand is read as.
     pub(crate) fn read<T, F: FnOnce(&'a str) -> Result<T, Problem>>(
         self,
         place: usize,
@@ -114,7 +109,7 @@ impl Located<'_, '_> {
     }
 }
 
-// What the text of the operand at `place` is read as.
+// What the operand at `place` is read as, by its text.
 fn read<'a, T, F: FnOnce(&'a str) -> Result<T, Problem>>(
     place: usize,
     text: &'a str,

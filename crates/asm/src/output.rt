@@ -33,12 +33,8 @@ impl Output {
 
     // Does what a statement says, and answers where the next one stands.
     pub fn add(&mut self, located: Located) -> Result<Cursor, Fault> {
-        let Located {
-            statement,
-            cursor,
-            ..
-        } = located;
-        match statement.name {
+        let cursor = located.cursor;
+        match located.statement.name {
             ".org" | ".data" | ".text" => {}
             ".word" => located.each_value(|i, word| self.place(cursor.on(i), word))?,
             ".answers" => located.each_value(|_, answer| Ok(self.answers.push(answer)?))?,
@@ -51,7 +47,7 @@ impl Output {
                 }
             }
         }
-        cursor.after(statement)
+        cursor.after(located.statement)
     }
 
     // Puts a word at the cursor, where none may be yet.
@@ -73,13 +69,9 @@ impl Output {
     }
 
     fn set_start(&mut self, located: Located) -> Result<(), Fault> {
-        let Located {
-            statement,
-            symbols,
-            ..
-        } = located;
+        let statement = located.statement;
         statement.expect(1)?;
-        let address = statement.read(0, |text| aligned(value(symbols, text)?))?;
+        let address = statement.read(0, |text| aligned(value(located.symbols, text)?))?;
         if self.start.is_some() {
             return Err(Fault::operand(0, Problem::StartTwice));
         }

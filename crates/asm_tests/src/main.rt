@@ -14,34 +14,20 @@ use std::fs;
 
 // The assembler's words against those of another assembler.
 fn compare(rt: &HostRuntime) -> anyhow::Result<()> {
+    let heap = rt.alloc();
     let source = fs::read_to_string(rt, "all.s")?;
     let expected = fs::read_to_string(rt, "all.hex")?;
-    let ours = assemble(rt.alloc(), source.as_str()).map_err(|_| anyhow!("all.s is refused"))?;
-    let theirs = read_hex(rt.alloc(), expected.as_str()).map_err(|_| anyhow!(
-        "all.hex is refused"
-    ))?;
-    for (a, b) in ours
-        .code
-        .iter()
-        .zip(theirs.code.iter())
-        .filter(|(a, b)| a != b)
-    {
+    let ours = assemble(heap, source.as_str()).map_err(|_| anyhow!("all.s is refused"))?;
+    let theirs = read_hex(heap, expected.as_str()).map_err(|_| anyhow!("all.hex is refused"))?;
+    let (ours, theirs) = (ours.code.as_slice(), theirs.code.as_slice());
+    for (a, b) in ours.iter().zip(theirs).filter(|(a, b)| a != b) {
         println!(rt;
             "{:#x}: {:#x}, but {:#x}: {:#x}",
             a.address, a.word, b.address, b.word
         )?;
     }
-    let same = ours
-        .code
-        .iter()
-        .zip(theirs.code.iter())
-        .filter(|(a, b)| a == b)
-        .count();
-    println!(rt;
-        "{same} of {} and {} words agree",
-        ours.code.len(),
-        theirs.code.len()
-    )?;
+    let same = ours.iter().zip(theirs).filter(|(a, b)| a == b).count();
+    println!(rt; "{same} of {} and {} words agree", ours.len(), theirs.len())?;
     Ok(())
 }
 
@@ -128,7 +114,7 @@ fn show_words(rt: &HostRuntime, name: &str) -> anyhow::Result<()> {
     Ok(())
 }
 
-// What is wrong with each case of a file, as it is read by a function.
+// What a reader of programs says of each case of a file.
 fn show_errors<F: Fn(Global, &str) -> Result<Program, AsmError>>(
     rt: &HostRuntime,
     name: &str,
