@@ -36,6 +36,7 @@ pub enum Problem {
     NoMemory,
 }
 
+// By hand: the text at fault stands inside the message, and it is no part of the problem.
 impl fmt::Display for AsmError<'_> {
     fn fmt<W: fmt::Write>(&self, f: &mut fmt::Formatter<W>) -> fmt::Result {
         let line = self.line;
