@@ -1,20 +1,20 @@
 // The programs to compare, and what comes of it.
 use crate::options::{HELP, Options};
 use asm::listing::Listing;
-use asm::program::Program;
+use asm::program::{Placed, Program};
 use sim::devices::Rest;
-use std::env;
+use std::fmt;
 use testbench::failure::Failure;
 use testbench::files::{Format, read_program};
 use testbench::generator::random_program;
-use testbench::mismatch::Mismatch;
+use testbench::options::from_args;
 use testbench::setup::Setup;
 use testbench::summary::Summary;
 use testbench::trace::trace;
-use testbench::versus::{Verdict, versus};
+use testbench::versus::{Difference, versus};
 
 // What agreed so far.
-#[derive(Clone, Copy)]
+#[derive(Clone, Copy, Default)]
 struct Totals {
     programs: u64,
     runs: u64,
@@ -30,110 +30,108 @@ impl Totals {
     }
 }
 
+// `programs 2, runs 8, clocks 812, instructions 390`
+impl fmt::Display for Totals {
+    fn fmt<W: fmt::Write>(&self, f: &mut fmt::Formatter<W>) -> fmt::Result {
+        let Totals {
+            programs,
+            runs,
+            clocks,
+            instructions,
+        } = *self;
+        write!(
+            f,
+            "programs {programs}, runs {runs}, clocks {clocks}, instructions {instructions}"
+        )
+    }
+}
+
 pub fn run(rt: &HostRuntime) -> Result<(), Failure> {
     let heap = rt.alloc();
-    let words = env::args(rt)?.skip(1).collect::<Vec<String>>(heap)?;
-    let options = Options::read(heap, &words)?;
-    if options.help {
-        print!(rt; "{HELP}")?;
+    let Some(options) = from_args(rt, Options::new(heap), HELP)? else {
         return Ok(());
-    }
+    };
     if options.programs.is_empty() && options.random == 0 {
         return Err(Failure::Input(String::from_str(heap, "no program; see compare --help")?));
     }
-    let mut totals = Totals {
-        programs: 0,
-        runs: 0,
-        clocks: 0,
-        instructions: 0,
+    let mut comparison = Comparison {
+        rt,
+        options: &options,
+        totals: Totals::default(),
     };
-    compare_files(rt, &options, &mut totals)?;
-    compare_random(rt, &options, &mut totals)?;
-    let Totals {
-        programs,
-        runs,
-        clocks,
-        instructions,
-    } = totals;
-    println!(rt;
-        "programs {programs}, runs {runs}, clocks {clocks}, instructions {instructions}: all agree"
-    )?;
+    comparison.compare_files()?;
+    comparison.compare_random()?;
+    let totals = comparison.totals;
+    println!(rt; "{totals}: all agree")?;
     Ok(())
 }
 
-fn compare_files(rt: &HostRuntime, options: &Options, totals: &mut Totals) -> Result<(), Failure> {
-    for path in options.programs.iter() {
-        let path = path.as_str();
-        let format = options.format.unwrap_or(Format::of(path));
-        let program = read_program(rt, path, format)?;
-        compare(
-            rt,
-            options,
-            path,
-            &program,
-            Rest::Zero,
-            u64::from(options.seed),
-            totals,
-        )?;
+// What is compared, and what came of it so far.
+#[derive(Clone, Copy)]
+struct Comparison<'a> {
+    rt: &'a HostRuntime,
+    options: &'a Options,
+    totals: Totals,
+}
+
+impl Comparison<'_> {
+    fn compare_files(&mut self) -> Result<(), Failure> {
+        let seed = u64::from(self.options.seed);
+        for path in self.options.programs.iter() {
+            let path = path.as_str();
+            let format = self.options.format.unwrap_or(Format::of(path));
+            let program = read_program(self.rt, path, format)?;
+            self.compare(path, &program, Rest::Zero, seed)?;
+        }
+        Ok(())
     }
-    Ok(())
-}
 
-fn compare_random(rt: &HostRuntime, options: &Options, totals: &mut Totals) -> Result<(), Failure> {
-    let heap = rt.alloc();
-    for i in 0..options.random {
-        let seed = u64::from(options.seed) + u64::from(i);
-        let program = random_program(heap, seed)?;
-        let name = format!(in heap; "--random 1 --seed {seed}")?;
-        compare(
-            rt,
-            options,
-            name.as_str(),
-            &program,
-            Rest::Random,
-            seed,
-            totals,
-        )?;
+    fn compare_random(&mut self) -> Result<(), Failure> {
+        let heap = self.rt.alloc();
+        let first = u64::from(self.options.seed);
+        for seed in first..first + u64::from(self.options.random) {
+            let program = random_program(heap, seed)?;
+            let name = format!(in heap; "--random 1 --seed {seed}")?;
+            self.compare(name.as_str(), &program, Rest::Random, seed)?;
+        }
+        Ok(())
     }
-    Ok(())
-}
 
-// One program with each delay.
-fn compare(
-    rt: &HostRuntime,
-    options: &Options,
-    name: &str,
-    program: &Program,
-    rest: Rest,
-    seed: u64,
-    totals: &mut Totals,
-) -> Result<(), Failure> {
-    totals.programs = totals.programs.saturating_add(1);
-    for delay in options.delays(rt.alloc())? {
-        let setup = Setup {
-            program,
-            delay,
-            rest,
-            seed,
-        };
-        match versus(rt.alloc(), &setup, u64::from(options.clocks))? {
-            Verdict::Agrees(summary) => totals.add(&summary),
-            Verdict::Differs { clock, mismatch } => {
-                show_difference(rt, name, &setup, clock, mismatch)?;
-                return Err(Failure::Shown);
+    // One program with each delay.
+    fn compare(
+        &mut self,
+        name: &str,
+        program: &Program,
+        rest: Rest,
+        seed: u64,
+    ) -> Result<(), Failure> {
+        self.totals.programs = self.totals.programs.saturating_add(1);
+        for delay in self.options.delays() {
+            let setup = Setup {
+                program,
+                delay: *delay,
+                rest,
+                seed,
+            };
+            match versus(self.rt.alloc(), &setup, u64::from(self.options.clocks))? {
+                Ok(summary) => self.totals.add(&summary),
+                Err(difference) => {
+                    show_difference(self.rt, name, &setup, difference)?;
+                    return Err(Failure::Shown);
+                }
             }
         }
+        Ok(())
     }
-    Ok(())
 }
 
 fn show_difference(
     rt: &HostRuntime,
     name: &str,
     setup: &Setup,
-    clock: u64,
-    mismatch: Mismatch,
+    difference: Difference,
 ) -> Result<(), Failure> {
+    let Difference { clock, mismatch } = difference;
     let delay = setup.delay;
     println!(rt; "{name}, answers after {delay} clocks: in clock {clock} {mismatch}")?;
     println!(rt)?;
@@ -151,11 +149,8 @@ fn show_difference(
 
 fn show_program(rt: &HostRuntime, program: &Program) -> Result<(), Failure> {
     for placed in program.code.iter() {
-        let pc = placed.address;
-        let line = Listing {
-            pc,
-            word: placed.word,
-        };
+        let Placed { address: pc, word } = *placed;
+        let line = Listing { pc, word };
         println!(rt; "{pc:#010x}  {line}")?;
     }
     Ok(())

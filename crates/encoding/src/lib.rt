@@ -5,7 +5,7 @@ ghost use Rattle.std.specs.Prelude.{◌≡◌, IfSome, Some};
 ghost use Rattle.isa.specs.Decoding.{decodes};
 
 use isa::decode::decode;
-use isa::instr::{AluOp, Cond, Instr, MulOp};
+use isa::instr::{AluOp, Instr};
 use isa::reg::Reg;
 
 // The word that decodes to the instruction, or none if its immediate or offset doesn't fit.
@@ -13,11 +13,8 @@ pub fn encode(instr: Instr) -> Option<u32>
     ensures { IfSome result (λ w. decodes w ≡ Some instr) }
 {
     let word = build(instr);
-    if decode(word)? == instr {
-        Some(word)
-    } else {
-        None
-    }
+    let decoded = decode(word)?;
+    if decoded == instr { Some(word) } else { None }
 }
 
 // The word, if the immediate or offset fits.
@@ -32,7 +29,7 @@ fn build(instr: Instr) -> u32 {
             rs1,
             rs2,
             offset,
-        } => { branch_offset(offset) | at(rs2, 20) | at(rs1, 15) | cond_funct3(cond) << 12 | 0x63 }
+        } => { branch_offset(offset) | at(rs2, 20) | at(rs1, 15) | u32::from(cond) << 12 | 0x63 }
         Instr::Load { rd, rs1, offset } => {
             offset << 20 | at(rs1, 15) | 2 << 12 | at(rd, 7) | 0x03
         }
@@ -40,18 +37,13 @@ fn build(instr: Instr) -> u32 {
             store_offset(offset) | at(rs2, 20) | at(rs1, 15) | 2 << 12 | 0x23
         }
         Instr::AluImm { op, rd, rs1, imm } => {
-            imm << 20 | at(rs1, 15) | alu_funct3(op) << 12 | at(rd, 7) | 0x13
+            imm << 20 | at(rs1, 15) | op.funct3() << 12 | at(rd, 7) | 0x13
         }
         Instr::AluReg { op, rd, rs1, rs2 } => {
-            alu_funct7(op) << 25
-                | at(rs2, 20)
-                | at(rs1, 15)
-                | alu_funct3(op) << 12
-                | at(rd, 7)
-                | 0x33
+            funct7(op) << 25 | at(rs2, 20) | at(rs1, 15) | op.funct3() << 12 | at(rd, 7) | 0x33
         }
         Instr::MulDiv { op, rd, rs1, rs2 } => {
-            1 << 25 | at(rs2, 20) | at(rs1, 15) | mul_funct3(op) << 12 | at(rd, 7) | 0x33
+            1 << 25 | at(rs2, 20) | at(rs1, 15) | u32::from(op) << 12 | at(rd, 7) | 0x33
         }
         Instr::Ecall => 0x73,
     }
@@ -74,42 +66,7 @@ fn jump_offset(x: u32) -> u32 {
     (x >> 31) << 31 | ((x >> 1) & 0x3ff) << 21 | ((x >> 11) & 1) << 20 | ((x >> 12) & 0xff) << 12
 }
 
-fn cond_funct3(cond: Cond) -> u32 {
-    match cond {
-        Cond::Eq => 0,
-        Cond::Ne => 1,
-        Cond::Lt => 4,
-        Cond::Ge => 5,
-        Cond::Ltu => 6,
-        Cond::Geu => 7,
-    }
-}
-
-fn alu_funct3(op: AluOp) -> u32 {
-    match op {
-        AluOp::Add | AluOp::Sub => 0,
-        AluOp::Sll => 1,
-        AluOp::Slt => 2,
-        AluOp::Sltu => 3,
-        AluOp::Xor => 4,
-        AluOp::Srl | AluOp::Sra => 5,
-        AluOp::Or => 6,
-        AluOp::And => 7,
-    }
-}
-
-fn alu_funct7(op: AluOp) -> u32 {
-    match op {
-        AluOp::Sub | AluOp::Sra => 32,
-        _ => 0,
-    }
-}
-
-fn mul_funct3(op: MulOp) -> u32 {
-    match op {
-        MulOp::Mul => 0,
-        MulOp::Mulhu => 3,
-        MulOp::Divu => 5,
-        MulOp::Remu => 7,
-    }
+// The second form of addition and of the shift to the right has bit 30 set.
+fn funct7(op: AluOp) -> u32 {
+    if op.is_other() { 32 } else { 0 }
 }

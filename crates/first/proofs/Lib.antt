@@ -1,5 +1,6 @@
 pub mod Tests
 pub mod Newest
+pub mod Queues
 pub mod Parts
 pub mod RoundTrip
 pub mod Ring

@@ -1,5 +1,5 @@
 -- The load-store unit's rules are the model's.
-use Rattle.std.proofs.Common.{◌≡◌, ℕ, zero, suc, ◌-◌, ◌%◌, ◌<◌, ◌≤◌, Bool, true, false, cond, ◌&&◌, eqb, ltb, List, [], ◌∷◌, ◌++◌, length, get_or, take, set, Some, None, Option, sym, refl, ap, ◌∙◌, subst, ap₂, arith, length-set}
+use Rattle.std.proofs.Common.{◌≡◌, ℕ, zero, suc, ◌-◌, ◌%◌, ◌<◌, ◌≤◌, Bool, true, false, cond, ◌&&◌, eqb, ltb, List, [], ◌∷◌, ◌++◌, length, get_or, take, drop, set, Some, None, Option, sym, refl, ap, ◌∙◌, subst, ap₂, arith, length-set}
 use mathlib.Core.Option.{Option as Opt, some, none}
 use Rattle.std.proofs.lemmas.List.{length-take-le}
 use Rattle.std.proofs.lemmas.Bool.{eqb-true, eqb-false, ltb-true, ltb-false}
@@ -10,55 +10,32 @@ use Rattle.pins.specs.declared.ports.Request.TheVariants.{Read, Write}
 use Rattle.first.specs.declared.state.Store.{Store}
 use Rattle.first.specs.declared.state.Open.{Open}
 use Rattle.first.specs.declared.state.Open.TheVariants.{Acknowledgment, Load as ForLoad}
-use Rattle.first.specs.declared.state.OpenRequests.{OpenRequests}
 use Rattle.first.specs.declared.state.Load.{Load}
 use Rattle.first.specs.declared.state.Load.TheVariants.{Idle, Waiting, Answered}
 use Rattle.first.specs.declared.state.Lsu.{Lsu}
 use Rattle.first.specs.StoreRules.{no_store, entry, buffer_pop}
-use Rattle.first.specs.LsuRules.{open_at, open_push, open_pop, load_answered, lsu_answered, lsu_take, lsu_room, drains, lsu_sent, lsu_drain, write_of, drain_request}
+use Rattle.first.specs.LsuRules.{OpenRequests, open_at, open_push, open_pop, load_answered, lsu_answered, lsu_take, lsu_room, drains, lsu_sent, lsu_drain, write_of, drain_request}
 use Rattle.first.specs.Model.{Storing, answer_load, answer, take_data, drain_if, drain_one, drain}
 use Rattle.first.proofs.Tests.{both_left, both_right, by_cond}
 use Rattle.first.proofs.Ring.{ring}
+use Rattle.first.proofs.Queues.{pushed_behind, oldest_taken, four_up}
 use Rattle.first.proofs.ModelOf.{waiting, opened, storing, SizedStores, SizedRequests}
 use Rattle.first.proofs.StoreModel.{pop_is, pop_sized}
 
 -- the queue of open requests
-push_opened : (n : ℕ) (l : List Open) (o : Open) → length l ≡ 4 → n < 4 → take (add n 1) (set l (n % 4) o) ≡ take n l ++ (o ∷ [])
-push_opened n l o h lt =
-    let p : add n 1 ≡ suc n = omega arith in
-    let q : n % 4 ≡ n = omega arith in
-    ap₂ (λ m j. take m (set l j o)) p q ∙ at_end n l (omega arith)
-  where
-    at_end : (n : ℕ) (l : List Open) → n < length l → take (suc n) (set l n o) ≡ take n l ++ (o ∷ [])
-    at_end n [] h = absurd (omega arith)
-    at_end zero (x ∷ l) h = refl
-    at_end (suc n) (x ∷ l) h = ap (λ t. x ∷ t) (at_end n l (omega arith))
-
-pop_opened : (n : ℕ) (l : List Open) → length l ≡ 4 → 0 < n → n ≤ 4
-    → take n l ≡ get_or l 0 Acknowledgment ∷ take (n - 1) (get_or l 1 Acknowledgment ∷ get_or l 2 Acknowledgment ∷ get_or l 3 Acknowledgment ∷ get_or l 3 Acknowledgment ∷ [])
-pop_opened zero l h p q = absurd (omega arith)
-pop_opened (suc n) [] h p q = absurd (omega arith)
-pop_opened (suc n) (a ∷ []) h p q = absurd (omega arith)
-pop_opened (suc n) (a ∷ b ∷ []) h p q = absurd (omega arith)
-pop_opened (suc n) (a ∷ b ∷ c ∷ []) h p q = absurd (omega arith)
-pop_opened (suc n) (a ∷ b ∷ c ∷ d ∷ e ∷ l) h p q = absurd (omega arith)
-pop_opened (suc zero) (a ∷ b ∷ c ∷ d ∷ []) h p q = refl
-pop_opened (suc (suc zero)) (a ∷ b ∷ c ∷ d ∷ []) h p q = refl
-pop_opened (suc (suc (suc zero))) (a ∷ b ∷ c ∷ d ∷ []) h p q = refl
-pop_opened (suc (suc (suc (suc zero)))) (a ∷ b ∷ c ∷ d ∷ []) h p q = refl
-pop_opened (suc (suc (suc (suc (suc n))))) (a ∷ b ∷ c ∷ d ∷ []) h p q = absurd (omega arith)
-
 pub opened_length : (q : OpenRequests) → SizedRequests q → length (opened q) ≡ q.count
 opened_length q h = length-take-le q.count q.at (omega (arith, h.array, h.few))
 
 pub opened_push : (q : OpenRequests) (o : Open) → SizedRequests q → q.count < 4 → opened (open_push q o) ≡ opened q ++ (o ∷ [])
-opened_push q o h l = push_opened q.count q.at o h.array l
+opened_push q o h l = pushed_behind q.count 4 q.at o h.array l (omega arith)
 
 pub push_sized : (q : OpenRequests) (o : Open) → SizedRequests q → q.count < 4 → SizedRequests (open_push q o)
 push_sized q o h l = record { array = length-set q.at (q.count % 4) o ∙ h.array; few = omega arith }
 
 opened_pop : (q : OpenRequests) → SizedRequests q → 0 < q.count → opened q ≡ open_at q 0 ∷ opened (open_pop q)
-opened_pop q h l = pop_opened q.count q.at h.array l h.few
+opened_pop q h l =
+    oldest_taken q.at (drop 3 q.at) q.count Acknowledgment l (omega (arith, h.array, h.few))
+    ∙ ap (λ (others : List Open). open_at q 0 ∷ take (q.count - 1) others) (four_up q.at Acknowledgment h.array)
 
 open_pop_sized : (q : OpenRequests) → SizedRequests q → SizedRequests (open_pop q)
 open_pop_sized q h = record { array = refl; few = omega (arith, h.few) }

@@ -3,18 +3,17 @@ use Rattle.std.proofs.Common.{◌≡◌, ℕ, ◌+◌, ◌≤◌, List, length, 
 use Rattle.pins.specs.PortWords.{plain, stop_word}
 use Rattle.first.specs.declared.state.Fetch.{Fetch}
 use Rattle.first.specs.declared.state.Store.{Store}
-use Rattle.first.specs.declared.state.StoreBuffer.{StoreBuffer}
 use Rattle.first.specs.declared.state.Open.{Open}
-use Rattle.first.specs.declared.state.OpenRequests.{OpenRequests}
 use Rattle.first.specs.declared.state.Lsu.{Lsu}
 use Rattle.first.specs.declared.state.Core.{Core}
-use Rattle.first.specs.StoreRules.{no_store}
+use Rattle.first.specs.StoreRules.{StoreBuffer, no_store}
 use Rattle.first.specs.Model.{Fetching, Storing, Model}
 use Rattle.first.proofs.Ring.{ring}
+use Rattle.first.specs.LsuRules.{OpenRequests}
 
 -- arrays as lists
 abbrev pub kept : Fetch → List ℕ
-kept f = take f.count f.words
+kept f = take f.words.count f.words.at
 
 abbrev pub waiting : StoreBuffer → List Store
 waiting b = ring no_store b.at b.begin b.count
@@ -33,8 +32,8 @@ model_of k = record { regs = k.regs.values; pc = k.pc; fetch = fetching k.fetch;
 
 -- the counts are within their arrays, and no sum of them wraps
 pub record SizedFetch (f : Fetch) : Type 0 where
-  pub array : length f.words ≡ 2
-  pub ahead : f.count + f.coming ≤ 2
+  pub array : length f.words.at ≡ 2
+  pub ahead : f.words.count + f.coming ≤ 2
   pub asked : f.stale + f.coming ≤ 4
 
 pub record SizedStores (b : StoreBuffer) : Type 0 where

@@ -1,7 +1,6 @@
 -- The search for the newest store, from the newest place down.
 use Rattle.std.proofs.Common.{◌≡◌, ℕ, zero, suc, ◌-◌, ◌<◌, true, false, cond, Some, None, refl, ap, ◌∙◌, sub-one, arith}
-use Rattle.first.specs.declared.state.StoreBuffer.{StoreBuffer}
-use Rattle.first.specs.StoreRules.{here, newest_below}
+use Rattle.first.specs.StoreRules.{StoreBuffer, here, newest_below}
 
 pub below_none : (b : StoreBuffer) (a n : ℕ) → n ≡ 0 → newest_below b a n ≡ None
 below_none b a n e = ap (newest_below b a) e

@@ -7,15 +7,13 @@ use Rattle.std.proofs.lemmas.Bool.Decides.{nat_tests}
 use Rattle.isa.specs.declared.execute.Stop.{Stop}
 use Rattle.isa.specs.declared.execute.Stop.TheVariants.{EnvCall, Illegal, Misaligned}
 use Rattle.first.specs.declared.state.Fetch.{Fetch}
-use Rattle.first.specs.declared.state.StoreBuffer.{StoreBuffer}
 use Rattle.first.specs.declared.state.Open.{Open}
 use Rattle.first.specs.declared.state.Open.TheVariants.{Acknowledgment, Load as ForLoad}
-use Rattle.first.specs.declared.state.OpenRequests.{OpenRequests}
 use Rattle.first.specs.declared.state.Load.{Load}
 use Rattle.first.specs.declared.state.Load.TheVariants.{Idle, Waiting, Answered}
 use Rattle.first.specs.declared.state.Core.{Core}
-use Rattle.first.specs.StoreRules.{no_store}
-use Rattle.first.specs.LsuRules.{open_at}
+use Rattle.first.specs.StoreRules.{StoreBuffer, no_store}
+use Rattle.first.specs.LsuRules.{OpenRequests, open_at}
 use Rattle.first.specs.Layout.{word, mark, stop_of, stop_tag, fetch_of, fetch_words, load_of, load_words, open_of, open_tag, requests_of, requests_words, stores_of, stores_words, head_words, core_of, core_words, decode, Shaped}
 
 -- part by part
@@ -25,10 +23,10 @@ stop_back (Some EnvCall) = refl
 stop_back (Some Illegal) = refl
 stop_back (Some Misaligned) = refl
 
-fetch_back : (f : Fetch) → length f.words ≡ 2 → fetch_of (fetch_words f) ≡ f
+fetch_back : (f : Fetch) → length f.words.at ≡ 2 → fetch_of (fetch_words f) ≡ f
 fetch_back f h =
-    let e = fill_by_all (λ (k : ℕ). get_or f.words k 0) f.words 2 0 h (λ k l. refl) in
-    λ i. record { count = f.count; words = sym e i; coming = f.coming; stale = f.stale; next = f.next }
+    let e = fill_by_all (λ (k : ℕ). get_or f.words.at k 0) f.words.at 2 0 h (λ k l. refl) in
+    λ i. record { words = record { count = f.words.count; at = sym e i }; coming = f.coming; stale = f.stale; next = f.next }
 
 load_back : (d : Load) → load_of (load_words d) ≡ d
 load_back Idle = refl

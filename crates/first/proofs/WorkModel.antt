@@ -67,14 +67,14 @@ module _ (k : Core) (h : Sized k) where
   outcome_is (Stores a x) = cond_pick (ltb k.lsu.stores.count 8) _ _ ∙ ap (λ n. pick (ltb n 8) (Push (record { address = a; value = x })) Wait) (sym (waiting_length k.lsu.stores))
   outcome_is (Halts s) = drained_is k (Halt s)
 
-  word_is : word_action k (cond (eqb k.fetch.count 0) None (Some (get_or k.fetch.words 0 0))) ≡ work_on (model_of k) (kept k.fetch)
+  word_is : word_action k (cond (eqb k.fetch.words.count 0) None (Some (get_or k.fetch.words.at 0 0))) ≡ work_on (model_of k) (kept k.fetch)
   word_is =
-      by (eqb k.fetch.count 0)
-      ∙ sym (head_is k.fetch.count k.fetch.words h.fetch.array (omega (arith, h.fetch.ahead)) Wait (λ w. M.act (model_of k) (work k.regs.values k.pc w)) (work_on (model_of k)) refl (λ x xs. refl))
+      by (eqb k.fetch.words.count 0)
+      ∙ sym (head_is k.fetch.words.count k.fetch.words.at h.fetch.array (omega (arith, h.fetch.ahead)) Wait (λ w. M.act (model_of k) (work k.regs.values k.pc w)) (work_on (model_of k)) refl (λ x xs. refl))
     where
-      by : (b : Bool) → word_action k (cond b None (Some (get_or k.fetch.words 0 0))) ≡ cond b Wait (M.act (model_of k) (work k.regs.values k.pc (get_or k.fetch.words 0 0)))
+      by : (b : Bool) → word_action k (cond b None (Some (get_or k.fetch.words.at 0 0))) ≡ cond b Wait (M.act (model_of k) (work k.regs.values k.pc (get_or k.fetch.words.at 0 0)))
       by true = refl
-      by false = outcome_is (work k.regs.values k.pc (get_or k.fetch.words 0 0))
+      by false = outcome_is (work k.regs.values k.pc (get_or k.fetch.words.at 0 0))
 
   -- what is decided is what the model decides
   pub action_is : action k ≡ decide (model_of k)

@@ -14,15 +14,13 @@ use Rattle.isa.specs.declared.execute.Stop.{Stop}
 use Rattle.isa.specs.declared.execute.Stop.TheVariants.{EnvCall, Illegal, Misaligned}
 use Rattle.first.specs.declared.state.Fetch.{Fetch}
 use Rattle.first.specs.declared.state.Store.{Store}
-use Rattle.first.specs.declared.state.StoreBuffer.{StoreBuffer}
 use Rattle.first.specs.declared.state.Open.{Open}
 use Rattle.first.specs.declared.state.Open.TheVariants.{Acknowledgment, Load as ForLoad}
-use Rattle.first.specs.declared.state.OpenRequests.{OpenRequests}
 use Rattle.first.specs.declared.state.Load.{Load}
 use Rattle.first.specs.declared.state.Load.TheVariants.{Idle, Waiting, Answered}
 use Rattle.first.specs.declared.state.Core.{Core}
-use Rattle.first.specs.StoreRules.{no_store}
-use Rattle.first.specs.LsuRules.{open_at}
+use Rattle.first.specs.StoreRules.{StoreBuffer, no_store}
+use Rattle.first.specs.LsuRules.{OpenRequests, open_at}
 
 abbrev pub word : List ℕ → ℕ → ℕ
 word w i = slice_index w i
@@ -35,7 +33,7 @@ abbrev pub stop_of : ℕ → Option Stop
 stop_of x = cond (x == 0) None (Some (cond (x == 1) EnvCall (cond (x == 2) Illegal Misaligned)))
 
 abbrev pub fetch_of : List ℕ → Fetch
-fetch_of w = record { count = word w 0; words = word w 1 ∷ word w 2 ∷ []; coming = word w 3; stale = word w 4; next = word w 5 }
+fetch_of w = record { words = record { count = word w 0; at = word w 1 ∷ word w 2 ∷ [] }; coming = word w 3; stale = word w 4; next = word w 5 }
 
 abbrev pub load_of : List ℕ → Load
 load_of w = cond (word w 0 == 0) Idle (cond (word w 0 == 1) (Waiting (word w 1)) (Answered (word w 1) (word w 2)))
@@ -76,7 +74,7 @@ abbrev pub head_words : Core → List ℕ
 head_words k = mark ∷ k.pc ∷ k.number.0 ∷ stop_tag k.stopped ∷ []
 
 abbrev pub fetch_words : Fetch → List ℕ
-fetch_words f = f.count ∷ word f.words 0 ∷ word f.words 1 ∷ f.coming ∷ f.stale ∷ f.next ∷ []
+fetch_words f = f.words.count ∷ word f.words.at 0 ∷ word f.words.at 1 ∷ f.coming ∷ f.stale ∷ f.next ∷ []
 
 abbrev pub load_words : Load → List ℕ
 load_words Idle = 0 ∷ 0 ∷ 0 ∷ []
@@ -105,6 +103,6 @@ core_words k = head_words k ++ (fetch_words k.fetch ++ (load_words k.lsu.load ++
 -- arrays of the right lengths
 pub record Shaped (k : Core) : Type 0 where
   pub regs : length k.regs.values ≡ 32
-  pub fetch : length k.fetch.words ≡ 2
+  pub fetch : length k.fetch.words.at ≡ 2
   pub requests : length k.lsu.requests.at ≡ 4
   pub stores : length k.lsu.stores.at ≡ 8

@@ -1,18 +1,21 @@
 -- The load-store unit's rules.
 use Rattle.std.specs.Prelude.{ℕ, ◌-◌, ◌%◌, Bool, cond, ◌&&◌, [], ◌∷◌, replicate, Some, None, Option, ◌==◌, nat_lt, slice_index_or, slice_set}
 use Rattle.isa.specs.Words.{add}
+use Rattle.rings.specs.declared.queue.Queue.{Queue}
 use Rattle.pins.specs.declared.ports.Request.{Request}
 use Rattle.pins.specs.declared.ports.Request.TheVariants.{Write}
 use Rattle.first.specs.declared.state.Store.{Store}
 use Rattle.first.specs.declared.state.Open.{Open}
 use Rattle.first.specs.declared.state.Open.TheVariants.{Acknowledgment, Load as ForLoad}
-use Rattle.first.specs.declared.state.OpenRequests.{OpenRequests}
 use Rattle.first.specs.declared.state.Load.{Load}
 use Rattle.first.specs.declared.state.Load.TheVariants.{Idle, Waiting, Answered}
 use Rattle.first.specs.declared.state.Lsu.{Lsu}
 use Rattle.first.specs.StoreRules.{buffer_start, entry, buffer_pop}
 
 -- the open requests: a queue of four
+abbrev pub OpenRequests : Type 0
+OpenRequests = Queue Open 4
+
 abbrev pub open_start : OpenRequests
 open_start = record { count = 0; at = replicate 4 Acknowledgment }
 

@@ -1,8 +1,12 @@
 -- The store buffer's rules.
 use Rattle.std.specs.Prelude.{ℕ, zero, suc, ◌+◌, ◌-◌, ◌/◌, ◌%◌, Bool, cond, ◌&&◌, replicate, Some, None, Option, ◌==◌, nat_lt, slice_index_or, slice_set}
 use Rattle.isa.specs.Words.{add}
+use Rattle.rings.specs.declared.ring.Ring.{Ring}
 use Rattle.first.specs.declared.state.Store.{Store}
-use Rattle.first.specs.declared.state.StoreBuffer.{StoreBuffer}
+
+-- a ring of eight stores
+abbrev pub StoreBuffer : Type 0
+StoreBuffer = Ring Store 8
 
 abbrev pub no_store : Store
 no_store = record { address = 0; value = 0 }

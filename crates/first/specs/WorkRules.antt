@@ -13,13 +13,12 @@ use Rattle.pins.specs.PortWords.{done_none, done_one}
 use Rattle.first.specs.declared.state.Load.{Load}
 use Rattle.first.specs.declared.state.Load.TheVariants.{Idle, Waiting, Answered}
 use Rattle.first.specs.declared.state.Lsu.{Lsu}
-use Rattle.first.specs.declared.state.StoreBuffer.{StoreBuffer}
 use Rattle.first.specs.declared.state.Core.{Core}
 use Rattle.first.specs.declared.state.Action.{Action}
 use Rattle.first.specs.declared.state.Action.TheVariants.{Wait, Halt, Write, Jump, Push, Ask}
 use Rattle.first.specs.declared.state.Effect.{Effect}
 use Rattle.first.specs.FetchRules.{fetch_head, fetch_goto, fetch_start}
-use Rattle.first.specs.StoreRules.{buffer_push, forwarded}
+use Rattle.first.specs.StoreRules.{StoreBuffer, buffer_push, forwarded}
 use Rattle.first.specs.LsuRules.{lsu_room, lsu_ask, lsu_start}
 
 abbrev pub core_start : ℕ → Core

@@ -1,16 +1,16 @@
 // The fetch unit: wants one word after the other, keeps up to two, drops what is no longer wanted.
 ghost use Rattle.std.specs.Prelude.{◌≡◌};
-ghost use Rattle.first.specs.FetchRules.{fetch_start, fetch_take, fetch_head, fetch_pop, fetch_flush, fetch_goto, fetch_room, fetch_wanted, fetch_want};
+ghost use Rattle.first.specs.FetchRules.{fetch_start, fetch_take, fetch_head, fetch_flush, fetch_goto, fetch_room, fetch_wanted, fetch_want};
 
 use crate::state::Fetch;
+use rings::queue::Queue;
 
 impl Fetch {
     pub fn start(address: u32) -> Fetch
         ensures { result ≡ fetch_start address }
     {
         Fetch {
-            count: 0,
-            words: [0; 2],
+            words: Queue::new(0),
             coming: 0,
             stale: 0,
             next: address,
@@ -27,8 +27,7 @@ impl Fetch {
         if self.stale > 0 {
             self.stale -= 1;
         } else if self.coming > 0 {
-            self.words[(self.count % 2) as usize] = word;
-            self.count = self.count.wrapping_add(1);
+            self.words.push(word);
             self.coming -= 1;
         }
     }
@@ -37,26 +36,14 @@ impl Fetch {
     pub fn head(&self) -> Option<u32>
         ensures { result ≡ fetch_head self.now }
     {
-        if self.count == 0 {
-            None
-        } else {
-            Some(self.words[0])
-        }
-    }
-
-    fn pop(&mut self)
-        ensures { self.new ≡ fetch_pop self.old }
-    {
-        let second = self.words[1];
-        self.words = [second, second];
-        self.count = self.count.saturating_sub(1);
+        (self.words.count > 0).then_some(self.words.at[0])
     }
 
     // Throws away what was fetched ahead, and goes on at `address`.
     fn flush(&mut self, address: u32)
         ensures { self.new ≡ fetch_flush self.old address }
     {
-        self.count = 0;
+        self.words.count = 0;
         self.stale = self.stale.wrapping_add(self.coming);
         self.coming = 0;
         self.next = address;
@@ -67,7 +54,7 @@ impl Fetch {
         ensures { self.new ≡ fetch_goto self.old pc address }
     {
         if address == pc.wrapping_add(4) {
-            self.pop();
+            self.words.pop();
         } else {
             self.flush(address);
         }
@@ -76,7 +63,7 @@ impl Fetch {
     fn room(&self) -> bool
         ensures { result ≡ fetch_room self.now }
     {
-        self.count.wrapping_add(self.coming) < 2 && self.stale.wrapping_add(self.coming) < 4
+        self.words.count.wrapping_add(self.coming) < 2 && self.stale.wrapping_add(self.coming) < 4
     }
 
     // The next word of code is wanted.

@@ -1,38 +1,11 @@
 // The load-store unit: open requests in order, the load at work, and the stores that wait.
 ghost use Rattle.std.specs.Prelude.{◌≡◌, ℕ, ◌<◌, ◌≤◌};
-ghost use Rattle.first.specs.LsuRules.{open_start, open_at, open_push, open_pop, lsu_start, load_answered, lsu_take, lsu_ask, lsu_room, drains, lsu_drain, drain_request, write_of};
+ghost use Rattle.first.specs.LsuRules.{lsu_start, load_answered, lsu_take, lsu_ask, lsu_room, drains, lsu_drain, drain_request, write_of};
 
-use crate::state::{Load, Lsu, Open, OpenRequests, Store, StoreBuffer};
+use crate::state::{Load, Lsu, Open, Store};
 use pins::ports::Request;
-
-impl OpenRequests {
-    pub fn start() -> OpenRequests
-        ensures { result ≡ open_start }
-    {
-        OpenRequests {
-            count: 0,
-            at: [Open::Acknowledgment; 4],
-        }
-    }
-
-    fn push(&mut self, kind: Open)
-        ensures { self.new ≡ open_push self.old kind }
-    {
-        self.at[(self.count % 4) as usize] = kind;
-        self.count = self.count.wrapping_add(1);
-    }
-
-    // What the oldest was for; the others move up.
-    fn pop(&mut self) -> Open
-        ensures rest { self.new ≡ open_pop self.old }
-        ensures oldest { result ≡ open_at self.old 0 }
-    {
-        let [a, b, c, d] = self.at;
-        self.at = [b, c, d, d];
-        self.count = self.count.saturating_sub(1);
-        a
-    }
-}
+use rings::queue::Queue;
+use rings::ring::Ring;
 
 impl Load {
     fn answered(self, word: u32) -> Load
@@ -64,8 +37,11 @@ impl Lsu {
         ensures { result ≡ lsu_start }
     {
         Lsu {
-            stores: StoreBuffer::start(),
-            requests: OpenRequests::start(),
+            stores: Ring::new(Store {
+                address: 0,
+                value: 0,
+            }),
+            requests: Queue::new(Open::Acknowledgment),
             load: Load::Idle,
         }
     }
@@ -114,13 +90,10 @@ impl Lsu {
         ensures after { self.new ≡ lsu_drain self.old request }
         ensures value { result ≡ drain_request self.old request }
     {
-        let None = request else {
+        if request.is_some() || !self.drains() {
             return request;
-        };
-        if !self.drains() {
-            return None;
         }
-        let store = self.stores.oldest();
+        let store = self.stores.entry(0);
         self.stores.pop();
         self.requests.push(Open::Acknowledgment);
         Some(store.request())

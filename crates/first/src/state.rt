@@ -3,13 +3,14 @@ use isa::execute::Stop;
 use isa::reg::Reg;
 use isa::regs::Regs;
 use pins::ports::{Done, Request};
+use rings::queue::Queue;
+use rings::ring::Ring;
 
 // The fetch unit: words that came and are not used yet, oldest first; how many wanted words are still to come,
 // and how many older ones are to be dropped before them; the next address to want.
 #[derive(Clone, Copy)]
 pub struct Fetch {
-    pub count: u32,
-    pub words: [u32; 2],
+    pub words: Queue<u32, 2>,
     pub coming: u32,
     pub stale: u32,
     pub next: u32,
@@ -23,12 +24,7 @@ pub struct Store {
 }
 
 // The store buffer: a ring of eight, the oldest at `begin`.
-#[derive(Clone, Copy)]
-pub struct StoreBuffer {
-    pub begin: u32,
-    pub count: u32,
-    pub at: [Store; 8],
-}
+pub type StoreBuffer = Ring<Store, 8>;
 
 // What an open request is for.
 #[derive(Clone, Copy)]
@@ -38,11 +34,7 @@ pub enum Open {
 }
 
 // The open requests, oldest first.
-#[derive(Clone, Copy)]
-pub struct OpenRequests {
-    pub count: u32,
-    pub at: [Open; 4],
-}
+pub type OpenRequests = Queue<Open, 4>;
 
 // The load at work: not requested; requested; answered.
 #[derive(Clone, Copy)]

@@ -1,10 +1,12 @@
 // The core in its lent words: read from them, and written back.
-ghost use Rattle.std.specs.Prelude.{◌≡◌, ℕ, ◌+◌, ◌<◌, ◌≤◌, ◌++◌, length, drop};
+ghost use Rattle.std.specs.Prelude.{◌≡◌, ℕ, ◌+◌, ◌<◌, ◌≤◌, ◌++◌, List, length, drop, ⊤};
 ghost use Rattle.first.specs.Layout.{stop_of, fetch_of, load_of, open_of, requests_of, store_of, stores_of, core_of, decode, stop_tag, head_words, fetch_words, load_words, open_tag, requests_words, stores_words, core_words, Shaped};
 
 use crate::state::{Core, Fetch, Load, Lsu, Number, Open, OpenRequests, Store, StoreBuffer};
 use isa::execute::Stop;
 use isa::regs::Regs;
+use rings::queue::Queue;
+use rings::ring::Ring;
 
 // As few words as a core is lent.
 pub const LENT: usize = 65536;
@@ -27,44 +29,65 @@ fn stop_from(tag: u32) -> Option<Stop>
 fn stop_word(stopped: Option<Stop>) -> u32
     ensures { result ≡ stop_tag stopped }
 {
-    let Some(stop) = stopped else {
-        return 0;
-    };
-    match stop {
-        Stop::EnvCall => 1,
-        Stop::Illegal => 2,
-        Stop::Misaligned => 3,
+    match stopped {
+        None => 0,
+        Some(stop) => 1 + u32::from(stop),
     }
 }
 
-impl Fetch {
-    fn load(w: &[u32]) -> Fetch
-        requires { length w.now ≡ 6 }
-        ensures { result ≡ fetch_of w.now }
-    {
+// A part of the core, which stands in N words.
+trait InWords<const N: usize>: Sized {
+    // The part that words are.
+    ghost of: { List ℕ → Self };
+
+    // The words that a part is.
+    ghost words_of: { Self → List ℕ };
+
+    // Its arrays have their lengths.
+    ghost Shaped: { Self → Type 0 };
+
+    fn load(w: &[u32]) -> Self
+        requires { length w.now ≡ N }
+        ensures { result ≡ of w.now };
+
+    fn words(&self) -> [u32; N]
+        ensures is { result ≡ words_of self.now }
+        ensures shaped { Shaped self.now };
+}
+
+impl InWords<6> for Fetch {
+    ghost of = { fetch_of };
+
+    ghost words_of = { fetch_words };
+
+    ghost Shaped = { λ f. length f.words.at ≡ 2 };
+
+    fn load(w: &[u32]) -> Fetch {
         Fetch {
-            count: w[0],
-            words: [w[1], w[2]],
+            words: Queue {
+                count: w[0],
+                at: [w[1], w[2]],
+            },
             coming: w[3],
             stale: w[4],
             next: w[5],
         }
     }
 
-    fn words(&self) -> [u32; 6]
-        ensures is { result ≡ fetch_words self.now }
-        ensures shaped { length self.now.words ≡ 2 }
-    {
-        let [a, b] = self.words;
-        [self.count, a, b, self.coming, self.stale, self.next]
+    fn words(&self) -> [u32; 6] {
+        let [a, b] = self.words.at;
+        [self.words.count, a, b, self.coming, self.stale, self.next]
     }
 }
 
-impl Load {
-    fn load(w: &[u32]) -> Load
-        requires { length w.now ≡ 3 }
-        ensures { result ≡ load_of w.now }
-    {
+impl InWords<3> for Load {
+    ghost of = { load_of };
+
+    ghost words_of = { load_words };
+
+    ghost Shaped = { λ _. ⊤ };
+
+    fn load(w: &[u32]) -> Load {
         match w[0] {
             0 => Load::Idle,
             1 => Load::Waiting { address: w[1] },
@@ -75,9 +98,7 @@ impl Load {
         }
     }
 
-    fn words(&self) -> [u32; 3]
-        ensures { result ≡ load_words self.now }
-    {
+    fn words(&self) -> [u32; 3] {
         match *self {
             Load::Idle => [0, 0, 0],
             Load::Waiting { address } => [1, address, 0],
@@ -86,49 +107,46 @@ impl Load {
     }
 }
 
-impl Open {
-    fn from_tag(tag: u32) -> Open
-        ensures { result ≡ open_of tag }
-    {
+impl From<u32> for Open {
+    ghost from_gives = { λ tag kind. kind ≡ open_of tag };
+
+    fn from(tag: u32) -> Open {
         if tag == 0 {
             Open::Acknowledgment
         } else {
             Open::Load
         }
     }
+}
 
-    fn tag(self) -> u32
-        ensures { result ≡ open_tag self }
-    {
-        match self {
+impl From<Open> for u32 {
+    ghost from_gives = { λ kind tag. tag ≡ open_tag kind };
+
+    fn from(kind: Open) -> u32 {
+        match kind {
             Open::Acknowledgment => 0,
             Open::Load => 1,
         }
     }
 }
 
-impl OpenRequests {
-    fn load(w: &[u32]) -> OpenRequests
-        requires { length w.now ≡ 5 }
-        ensures { result ≡ requests_of w.now }
-    {
-        OpenRequests {
+impl InWords<5> for OpenRequests {
+    ghost of = { requests_of };
+
+    ghost words_of = { requests_words };
+
+    ghost Shaped = { λ q. length q.at ≡ 4 };
+
+    fn load(w: &[u32]) -> OpenRequests {
+        Queue {
             count: w[0],
-            at: [
-                Open::from_tag(w[1]),
-                Open::from_tag(w[2]),
-                Open::from_tag(w[3]),
-                Open::from_tag(w[4]),
-            ],
+            at: [w[1].into(), w[2].into(), w[3].into(), w[4].into()],
         }
     }
 
-    fn words(&self) -> [u32; 5]
-        ensures is { result ≡ requests_words self.now }
-        ensures shaped { length self.now.at ≡ 4 }
-    {
+    fn words(&self) -> [u32; 5] {
         let [a, b, c, d] = self.at;
-        [self.count, a.tag(), b.tag(), c.tag(), d.tag()]
+        [self.count, a.into(), b.into(), c.into(), d.into()]
     }
 }
 
@@ -142,12 +160,16 @@ fn store_at(w: &[u32], i: usize) -> Store
     }
 }
 
-impl StoreBuffer {
-    fn load(w: &[u32]) -> StoreBuffer
-        requires { length w.now ≡ 18 }
-        ensures { result ≡ stores_of w.now }
-    {
-        StoreBuffer {
+impl InWords<18> for StoreBuffer {
+    ghost of = { stores_of };
+
+    ghost words_of = { stores_words };
+
+    ghost Shaped = { λ b. length b.at ≡ 8 };
+
+    #[tactic(auto, unfolding(crate::specs::Layout::stores_of))]
+    fn load(w: &[u32]) -> StoreBuffer {
+        Ring {
             begin: w[0],
             count: w[1],
             at: [
@@ -163,10 +185,8 @@ impl StoreBuffer {
         }
     }
 
-    fn words(&self) -> [u32; 18]
-        ensures is { result ≡ stores_words self.now }
-        ensures shaped { length self.now.at ≡ 8 }
-    {
+    #[tactic(auto, unfolding(crate::specs::Layout::stores_words))]
+    fn words(&self) -> [u32; 18] {
         let [a, b, c, d, e, f, g, h] = self.at;
         [
             self.begin, self.count, a.address, a.value, b.address, b.value, c.address, c.value,
@@ -187,6 +207,7 @@ fn register_words(regs: &Regs) -> [u32; 32]
 }
 
 impl Core {
+    #[tactic(auto, unfolding(crate::specs::Layout::core_of))]
     fn read(w: &[u32]) -> Core
         requires { 65536 ≤ length w.now }
         ensures { result ≡ core_of w.now }
@@ -209,17 +230,14 @@ impl Core {
     }
 
     // The core that the words are, or none.
+    #[tactic(auto, unfolding(crate::specs::Layout::decode))]
     pub fn load(w: &[u32]) -> Option<Core>
         ensures { result ≡ decode w.now }
     {
-        if w.len() < LENT {
+        if w.len() < LENT || w[0] != MARK {
             return None;
         }
-        if w[0] == MARK {
-            Some(Core::read(w))
-        } else {
-            None
-        }
+        Some(Core::read(w))
     }
 
     // Writes the core into the first of the words.

@@ -1,15 +1,26 @@
 // The instruction at work: what it does in a clock is decided from the state, and then done.
-ghost use Rattle.std.specs.Prelude.{◌≡◌, ℕ, ◌<◌, ◌≤◌};
+ghost use Rattle.std.specs.Prelude.{◌≡◌, ℕ, ◌<◌, ◌≤◌, if◌then◌else◌};
 ghost use Rattle.first.specs.WorkRules.{core_start, no_stores, ask_device, forward_or_ask, load_action, outcome_action, word_action, halted, action, retire, act, nothing, retired, effect};
+ghost use Rattle.first.specs.declared.state.Action.TheVariants.{Wait};
 ghost use Rattle.first.specs.Step.{next, outputs};
 ghost use Rattle.first.specs.StoreRules.{forwarded};
 
 use crate::state::{Action, Core, Effect, Fetch, Load, Lsu, Number, Store};
+use crate::stores::forward;
 use isa::devices::DEVICES;
 use isa::execute::{Outcome, perform};
 use isa::reg::Reg;
 use isa::regs::Regs;
 use pins::ports::{Done, Inputs, Outputs, Request, Retired};
+
+impl Action {
+    // The action, once it is ready.
+    fn when(ready: bool, action: Action) -> Action
+        ensures { result ≡ (if ready then action else Wait) }
+    {
+        if ready { action } else { Action::Wait }
+    }
+}
 
 impl Core {
     // A core to which nothing has happened yet.
@@ -36,30 +47,20 @@ impl Core {
     fn ask_device(&self, address: u32) -> Action
         ensures { result ≡ ask_device self.now address }
     {
-        if self.lsu.room() && self.no_stores() {
-            Action::Ask { address }
-        } else {
-            Action::Wait
-        }
+        Action::when(self.lsu.room() && self.no_stores(), Action::Ask { address })
     }
 
     // A word of data comes from the newest waiting store to it, or is requested.
     fn ask_data(&self, rd: Reg, address: u32) -> Action
         ensures { result ≡ forward_or_ask self.now rd address (forwarded self.now.lsu.stores address) }
     {
-        match self.lsu.stores.forward(address) {
+        match forward(&self.lsu.stores, address) {
             Some(value) => Action::Write {
                 rd,
                 value,
                 next: self.pc.wrapping_add(4),
             },
-            None => {
-                if self.lsu.room() {
-                    Action::Ask { address }
-                } else {
-                    Action::Wait
-                }
-            }
+            None => Action::when(self.lsu.room(), Action::Ask { address }),
         }
     }
 
@@ -90,20 +91,11 @@ impl Core {
             Outcome::Write { rd, value, next } => Action::Write { rd, value, next },
             Outcome::Jump { next } => Action::Jump { next },
             Outcome::Load { rd, address } => self.decide_load(rd, address),
-            Outcome::Store { address, value } => {
-                if self.lsu.stores.count < 8 {
-                    Action::Push(Store { address, value })
-                } else {
-                    Action::Wait
-                }
-            }
-            Outcome::Halt(stop) => {
-                if self.no_stores() {
-                    Action::Halt(stop)
-                } else {
-                    Action::Wait
-                }
-            }
+            Outcome::Store { address, value } => Action::when(
+                self.lsu.stores.count < 8,
+                Action::Push(Store { address, value }),
+            ),
+            Outcome::Halt(stop) => Action::when(self.no_stores(), Action::Halt(stop)),
         }
     }
 
@@ -189,6 +181,7 @@ impl Core {
     }
 
     // One clock: take the answer, work, take the code, drain a store, want code.
+    #[tactic(auto, unfolding(crate::specs::Step::next, crate::specs::Step::outputs))]
     pub fn clock(&mut self, inputs: Inputs) -> Outputs
         ensures after { self.new ≡ next self.old inputs }
         ensures value { result ≡ outputs self.old inputs }

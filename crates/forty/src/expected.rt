@@ -19,15 +19,31 @@ pub enum Expected {
     Stop(Stop),
 }
 
+impl Expected {
+    pub fn device(self) -> Option<Effect> {
+        match self {
+            Expected::Device(effect) => Some(effect),
+            _ => None,
+        }
+    }
+
+    pub fn stop(self) -> Option<Stop> {
+        match self {
+            Expected::Stop(how) => Some(how),
+            _ => None,
+        }
+    }
+}
+
 // All that a text states.
 pub fn read_expected(heap: Global, text: &str) -> Result<Vec<Expected>, Failure> {
     let mut list = Vec::new(heap);
     for line in text.lines() {
         if let Some(rest) = line.strip_prefix("# expect: ") {
-            match one_expected(rest) {
-                Some(expected) => list.push(expected)?,
-                None => return Err(Failure::Input(format!(in heap; "cannot expect '{rest}'")?)),
-            }
+            let Some(expected) = one_expected(rest) else {
+                return Err(Failure::Input(format!(in heap; "cannot expect '{rest}'")?));
+            };
+            list.push(expected)?;
         }
     }
     Ok(list)

@@ -11,12 +11,11 @@ program              instructions      0      1      7      0      1      7";
 
 pub fn show(rt: &HostRuntime) -> Result<(), Failure> {
     println!(rt; "{HEAD}")?;
-    let mut right = 0u32;
-    for name in NAMES {
-        if show_program(rt, name)? {
-            right = right.saturating_add(1);
-        }
-    }
+    let rows = NAMES
+        .iter()
+        .map(|name| show_program(rt, name))
+        .try_collect::<Vec<Row>>(rt.alloc())?;
+    let right = rows.iter().filter(|row| row.right()).count();
     let all = NAMES.len();
     println!(rt;
         "{right} of {all} programs have the results that they state, and agree with the manual"
@@ -24,8 +23,7 @@ pub fn show(rt: &HostRuntime) -> Result<(), Failure> {
     Ok(())
 }
 
-// Whether it is right.
-fn show_program(rt: &HostRuntime, name: &str) -> Result<bool, Failure> {
+fn show_program(rt: &HostRuntime, name: &str) -> Result<Row, Failure> {
     let heap = rt.alloc();
     let path = format!(in heap; "{name}.s")?;
     let program = read_program(rt, path.as_str(), Format::Assembly)?;
@@ -34,5 +32,5 @@ fn show_program(rt: &HostRuntime, name: &str) -> Result<bool, Failure> {
     let row = Row::of(heap, &program, &expected)?;
     let line = row.line(heap, name)?;
     println!(rt; "{line}")?;
-    Ok(row.right)
+    Ok(row)
 }

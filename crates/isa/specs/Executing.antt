@@ -1,5 +1,5 @@
 -- What one instruction does at its operands, and what the manual's state is then.
-use Rattle.std.specs.Prelude.{◌≡◌, ℕ, ◌*◌, ◌/◌, ◌%◌, Bool, false, List, Some, None, Option, ◌==◌}
+use Rattle.std.specs.Prelude.{◌≡◌, ℕ, ◌*◌, ◌/◌, ◌%◌, ◌<◌, Bool, false, List, Some, None, Option, Result, MatchResult, ◌==◌}
 use Rattle.isa.specs.Words.{pick, opt, add}
 use Rattle.isa.specs.Manual.{Code, S, Next, stops, alu, muls, branch, wrote, jumped, asked, saved, device, after1, does, step}
 use Rattle.isa.specs.Registers.{reg_of, value_in}
@@ -14,6 +14,7 @@ use Rattle.isa.specs.declared.instr.Instr.TheVariants.{Lui, Auipc, Jal, Jalr, Br
 use Rattle.isa.specs.declared.execute.Outcome.{Outcome}
 use Rattle.isa.specs.declared.execute.Outcome.TheVariants.{Write, Jump, Load as Read, Store as Save, Halt}
 use Rattle.isa.specs.declared.execute.Stop.{Stop}
+use Rattle.isa.specs.declared.execute.UnknownStop.{UnknownStop}
 use Rattle.isa.specs.declared.execute.Stop.TheVariants.{EnvCall, Illegal, Misaligned}
 
 -- the registers that an instruction reads; x0 where it reads none
@@ -89,6 +90,10 @@ abbrev pub how : Stop → ℕ
 how EnvCall = 0
 how Illegal = 1
 how Misaligned = 2
+
+-- and read back: as that code's stop, or refused where the ports never show it
+abbrev pub StopsBy : ℕ → Result Stop UnknownStop → Type 0
+StopsBy code r = MatchResult r (λ h. how h ≡ code) (λ e. (e.0 ≡ code) × (2 < code))
 
 -- the manual's state after an outcome
 abbrev pub enact : S → Outcome → Next

@@ -1,11 +1,13 @@
 -- What the operations of instructions mean, by the manual's definitions.
-use Rattle.std.specs.Prelude.{ℕ, Bool, true, false}
+use Rattle.std.specs.Prelude.{◌≡◌, ℕ, Bool, true, false, Some, None, Result, MatchResult}
 use Rattle.isa.specs.declared.instr.AluOp.{AluOp}
 use Rattle.isa.specs.declared.instr.AluOp.TheVariants.{Add, Sub, Sll, Slt, Sltu, Xor, Srl, Sra, Or, And}
 use Rattle.isa.specs.declared.instr.MulOp.{MulOp}
 use Rattle.isa.specs.declared.instr.MulOp.TheVariants.{Mul, Mulhu, Divu, Remu}
 use Rattle.isa.specs.declared.instr.Cond.{Cond}
 use Rattle.isa.specs.declared.instr.Cond.TheVariants.{Eq, Ne, Lt, Ge, Ltu, Geu}
+use Rattle.isa.specs.declared.instr.UnknownFunct3.{UnknownFunct3}
+use Rattle.isa.specs.Decoding.{cond_of, mul_of}
 
 -- field 3, and whether it is the other form
 abbrev pub alu_f3 : AluOp → ℕ
@@ -45,3 +47,10 @@ cond_f3 Lt = 4
 cond_f3 Ge = 5
 cond_f3 Ltu = 6
 cond_f3 Geu = 7
+
+-- what has a field 3: found by it, or refused where nothing has it
+abbrev pub IsCond : ℕ → Result Cond UnknownFunct3 → Type 0
+IsCond f r = MatchResult r (λ c. cond_of f ≡ Some c) (λ e. (e.0 ≡ f) × (cond_of f ≡ None))
+
+abbrev pub IsMul : ℕ → Result MulOp UnknownFunct3 → Type 0
+IsMul f r = MatchResult r (λ o. mul_of f ≡ Some o) (λ e. (e.0 ≡ f) × (mul_of f ≡ None))

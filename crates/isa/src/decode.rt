@@ -1,37 +1,11 @@
 // From a word to an instruction.
 ghost use Rattle.std.specs.Prelude.{◌≡◌, ℕ, ◌+◌, ◌<◌};
 ghost use Rattle.isa.specs.Manual.{f_3};
-ghost use Rattle.isa.specs.Decoding.{cond_of, mul_of, alu_of, branch_of, alu_imm_of, alu_reg_of, decoded, decodes};
+ghost use Rattle.isa.specs.Decoding.{cond_of, alu_of, branch_of, alu_imm_of, alu_reg_of, decoded, decodes};
 ghost use Rattle.isa.specs.Executing.{DecodesTo};
 
 use crate::fields::{funct3, funct7, imm_b, imm_i, imm_j, imm_s, imm_u, opcode, rd, rs1, rs2};
 use crate::instr::{AluOp, Cond, Instr, MulOp};
-
-fn condition(f3: u32) -> Option<Cond>
-    ensures { result ≡ cond_of f3 }
-{
-    match f3 {
-        0 => Some(Cond::Eq),
-        1 => Some(Cond::Ne),
-        4 => Some(Cond::Lt),
-        5 => Some(Cond::Ge),
-        6 => Some(Cond::Ltu),
-        7 => Some(Cond::Geu),
-        _ => None,
-    }
-}
-
-fn multiply_op(f3: u32) -> Option<MulOp>
-    ensures { result ≡ mul_of f3 }
-{
-    match f3 {
-        0 => Some(MulOp::Mul),
-        3 => Some(MulOp::Mulhu),
-        5 => Some(MulOp::Divu),
-        7 => Some(MulOp::Remu),
-        _ => None,
-    }
-}
 
 // By field 3; `other` is the second form of addition and of the shift to the right.
 fn alu_op(f3: u32, other: bool) -> AluOp
@@ -100,7 +74,7 @@ fn decode_by_opcode(word: u32) -> Option<Instr>
 fn decode_branch(word: u32) -> Option<Instr>
     ensures { result ≡ branch_of word (cond_of (f_3 word)) }
 {
-    let cond = condition(funct3(word))?;
+    let cond = Cond::try_from(funct3(word)).ok()?;
     Some(Instr::Branch {
         cond,
         rs1: rs1(word),
@@ -137,7 +111,7 @@ fn decode_alu_reg(word: u32) -> Option<Instr>
     let f3 = funct3(word);
     match funct7(word) {
         1 => {
-            let op = multiply_op(f3)?;
+            let op = MulOp::try_from(f3).ok()?;
             Some(Instr::MulDiv {
                 op,
                 rd: rd(word),

@@ -1,7 +1,7 @@
 // What an instruction does, for given operands.
 ghost use Rattle.std.specs.Prelude.{◌≡◌, ℕ, ◌+◌, ◌*◌, ◌/◌, ◌<◌};
 ghost use Rattle.isa.specs.Words.{add};
-ghost use Rattle.isa.specs.Executing.{aligned, outcome, executed, work, how, WorksTo};
+ghost use Rattle.isa.specs.Executing.{aligned, outcome, executed, work, how, StopsBy, WorksTo};
 
 use crate::alu::{alu, muldiv, taken};
 use crate::decode::decode;
@@ -10,22 +10,41 @@ use crate::reg::Reg;
 use crate::regs::Regs;
 
 // Why it stops: ecall, no instruction, an address that is not a multiple of 4.
-#[derive(Clone, Copy, PartialEq, Eq)]
+#[derive(Clone, Copy, Debug, PartialEq, Eq)]
 pub enum Stop {
     EnvCall,
     Illegal,
     Misaligned,
 }
 
-impl Stop {
-    // As the ports show it.
-    pub fn code(self) -> u32
-        ensures { result ≡ how self }
-    {
-        match self {
+// As the ports show it.
+impl From<Stop> for u32 {
+    ghost from_gives = { λ stop code. code ≡ how stop };
+
+    fn from(stop: Stop) -> u32 {
+        match stop {
             Stop::EnvCall => 0,
             Stop::Illegal => 1,
             Stop::Misaligned => 2,
+        }
+    }
+}
+
+// A code that the ports never show.
+#[derive(Clone, Copy, Debug, PartialEq, Eq)]
+pub struct UnknownStop(pub u32);
+
+impl TryFrom<u32> for Stop {
+    type Error = UnknownStop;
+
+    ghost try_from_gives = { StopsBy };
+
+    fn try_from(code: u32) -> Result<Stop, UnknownStop> {
+        match code {
+            0 => Ok(Stop::EnvCall),
+            1 => Ok(Stop::Illegal),
+            2 => Ok(Stop::Misaligned),
+            _ => Err(UnknownStop(code)),
         }
     }
 }
@@ -54,6 +73,17 @@ pub fn execute(instr: Instr, pc: u32, x: u32, y: u32) -> Outcome
     execute_kind(instr, pc, x, y)
 }
 
+// An address that is no word's stops it.
+fn aligned(address: u32, outcome: Outcome) -> Outcome
+    ensures { result ≡ aligned address outcome }
+{
+    if address % 4 == 0 {
+        outcome
+    } else {
+        Outcome::Halt(Stop::Misaligned)
+    }
+}
+
 // Writes a register and goes on behind this instruction.
 fn set(rd: Reg, value: u32, pc: u32) -> Outcome
     ensures { result ≡ Outcome.Write rd value (add pc 4) }
@@ -67,41 +97,13 @@ fn link(rd: Reg, pc: u32, next: u32) -> Outcome
     ensures { result ≡ aligned next (Outcome.Write rd (add pc 4) next) }
 {
     let value = pc.wrapping_add(4);
-    if next % 4 == 0 {
-        Outcome::Write { rd, value, next }
-    } else {
-        Outcome::Halt(Stop::Misaligned)
-    }
+    aligned(next, Outcome::Write { rd, value, next })
 }
 
 fn branch(next: u32) -> Outcome
     ensures { result ≡ aligned next (Outcome.Jump next) }
 {
-    if next % 4 == 0 {
-        Outcome::Jump { next }
-    } else {
-        Outcome::Halt(Stop::Misaligned)
-    }
-}
-
-fn load(rd: Reg, address: u32) -> Outcome
-    ensures { result ≡ aligned address (Outcome.Load rd address) }
-{
-    if address % 4 == 0 {
-        Outcome::Load { rd, address }
-    } else {
-        Outcome::Halt(Stop::Misaligned)
-    }
-}
-
-fn store(address: u32, value: u32) -> Outcome
-    ensures { result ≡ aligned address (Outcome.Store address value) }
-{
-    if address % 4 == 0 {
-        Outcome::Store { address, value }
-    } else {
-        Outcome::Halt(Stop::Misaligned)
-    }
+    aligned(next, Outcome::Jump { next })
 }
 
 fn execute_kind(instr: Instr, pc: u32, x: u32, y: u32) -> Outcome
@@ -116,8 +118,14 @@ fn execute_kind(instr: Instr, pc: u32, x: u32, y: u32) -> Outcome
             let step = if taken(cond, x, y) { offset } else { 4 };
             branch(pc.wrapping_add(step))
         }
-        Instr::Load { rd, offset, .. } => load(rd, x.wrapping_add(offset)),
-        Instr::Store { offset, .. } => store(x.wrapping_add(offset), y),
+        Instr::Load { rd, offset, .. } => {
+            let address = x.wrapping_add(offset);
+            aligned(address, Outcome::Load { rd, address })
+        }
+        Instr::Store { offset, .. } => {
+            let address = x.wrapping_add(offset);
+            aligned(address, Outcome::Store { address, value: y })
+        }
         Instr::AluImm { op, rd, imm, .. } => set(rd, alu(op, x, imm), pc),
         Instr::AluReg { op, rd, .. } => set(rd, alu(op, x, y), pc),
         Instr::MulDiv { op, rd, .. } => set(rd, muldiv(op, x, y), pc),

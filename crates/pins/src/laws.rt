@@ -10,71 +10,51 @@ ghost use Rattle.pins.specs.Reach.{ReachLaws, CallLaws};
 ghost use Rattle.pins.specs.Progress.{ProgressLaws};
 
 // The beginning of a list, as the promise of the ports has it, by what stands behind it.
-pub fn fronts<T>() -> bool
+pub fn fronts<T>()
     ensures { FrontLaws T }
-{
-    true
-}
+{}
 
 // The outside and what was shown, over histories put together.
-pub fn histories() -> bool
+pub fn histories()
     ensures { HistoryLaws }
-{
-    true
-}
+{}
 
 // One clock more is its answers taken from the view and what it shows added.
-pub fn view_by_clocks() -> bool
+pub fn view_by_clocks()
     ensures { ViewLaws }
-{
-    true
-}
+{}
 
 // What an open request will be answered with is settled when it is asked for; memory is the first with the effects done.
-pub fn settled_answers() -> bool
+pub fn settled_answers()
     ensures { SettledLaws }
-{
-    true
-}
+{}
 
 // One history clock by clock, as the documents walk through it.
-pub fn walkthrough() -> bool
+pub fn walkthrough()
     ensures { Walked }
-{
-    true
-}
+{}
 
 // What is open gets older clock by clock, and with answers within l clocks all of it is answered by l + 1.
-pub fn waits() -> bool
+pub fn waits()
     ensures { WaitLaws }
-{
-    true
-}
+{}
 
 // The manual beside what the ports have shown: what a device's answer and a retired instruction do to both.
-pub fn manual_beside() -> bool
+pub fn manual_beside()
     ensures { BesideLaws }
-{
-    true
-}
+{}
 
 // Of any core with states S: a history of two parts goes through a state between them.
-pub fn reach<S>() -> bool
+pub fn reach<S>()
     ensures { ReachLaws S }
-{
-    true
-}
+{}
 
 // Of any core with states S: what its calls have to show of their words.
-pub fn calls<S>() -> bool
+pub fn calls<S>()
     ensures { CallLaws S }
-{
-    true
-}
+{}
 
 // Of any core with states S: ranks that fall make it go on.
-pub fn progress<S>() -> bool
+pub fn progress<S>()
     ensures { ProgressLaws S }
-{
-    true
-}
+{}

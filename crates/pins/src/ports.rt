@@ -1,5 +1,5 @@
 // The words of one clock: four in, twenty out.
-ghost use Rattle.std.specs.Prelude.{◌≡◌, ℕ, ◌+◌, ◌<◌, ◌≤◌, true, length, drop, slice_index};
+ghost use Rattle.std.specs.Prelude.{◌≡◌, ℕ, ◌+◌, ◌<◌, ◌≤◌, true, length, take, min, drop, slice_index};
 ghost use Rattle.pins.specs.Ports.{In, in_of, out_of, req_of, rets_of, flagged, sound_out};
 ghost use Rattle.pins.specs.PortWords.{optional, plain, legal_out, ReadsOutputs, done_list, inputs_of, ReadsInputs, flag_of, word_of, request_of, kind_of, address_of, value_of, stop_word, done_none, done_one, shown, port_words};
 
@@ -20,7 +20,7 @@ pub enum Request {
 }
 
 // An instruction that is done: its address, the register that it writes and what, or 0 and 0.
-#[derive(Clone, Copy, PartialEq, Eq)]
+#[derive(Clone, Copy, Debug, PartialEq, Eq)]
 pub struct Retired {
     pub pc: u32,
     pub reg: u32,
@@ -46,7 +46,7 @@ pub struct Outputs {
 fn given(flag: u32, word: u32) -> Option<u32>
     ensures { result ≡ optional (flagged flag word) }
 {
-    if flag == 1 { Some(word) } else { None }
+    (flag == 1).then_some(word)
 }
 
 impl Inputs {
@@ -54,11 +54,11 @@ impl Inputs {
     pub fn read(ins: &[u32]) -> Option<Inputs>
         ensures { ReadsInputs ins.now result }
     {
-        if ins.len() != 4 {
+        let [code_flag, code_word, answer_flag, answer_word] = *ins else {
             return None;
-        }
-        let code = given(ins[0], ins[1]);
-        let answer = given(ins[2], ins[3]);
+        };
+        let code = given(code_flag, code_word);
+        let answer = given(answer_flag, answer_word);
         Some(Inputs { code, answer })
     }
 
@@ -72,32 +72,37 @@ impl Inputs {
     }
 }
 
+// What stands where no instruction is.
+const NOTHING: Retired = Retired {
+    pc: 0,
+    reg: 0,
+    value: 0,
+};
+
 impl Done {
     pub fn none() -> Done
         ensures { result ≡ done_none }
     {
         Done {
             count: 0,
-            at: [Retired {
-                pc: 0,
-                reg: 0,
-                value: 0,
-            }; 4],
+            at: [NOTHING; 4],
         }
     }
 
     pub fn one(first: Retired) -> Done
         ensures { result ≡ done_one first }
     {
-        let rest = Retired {
-            pc: 0,
-            reg: 0,
-            value: 0,
-        };
         Done {
             count: 1,
-            at: [first, rest, rest, rest],
+            at: [first, NOTHING, NOTHING, NOTHING],
         }
+    }
+
+    // The instructions alone.
+    pub fn retired(&self) -> &[Retired]
+        ensures { result.now ≡ take (min self.now.count 4) self.now.at }
+    {
+        &self.at[..self.count.min(4) as usize]
     }
 }
 
@@ -118,15 +123,6 @@ fn request_words(request: Option<Request>) -> (u32, u32, u32)
         Some(Request::Read { address }) => (1, address, 0),
         Some(Request::Write { address, value }) => (2, address, value),
     }
-}
-
-fn stop_code(stopped: Option<Stop>) -> Option<u32>
-    ensures { result ≡ stop_word stopped }
-{
-    let Some(stop) = stopped else {
-        return None;
-    };
-    Some(stop.code())
 }
 
 fn request_of(kind: u32, address: u32, value: u32) -> Option<Request>
@@ -157,11 +153,7 @@ fn stop_of(flag: u32, code: u32) -> Option<Stop>
     if flag != 1 {
         return None;
     }
-    match code {
-        0 => Some(Stop::EnvCall),
-        1 => Some(Stop::Illegal),
-        _ => Some(Stop::Misaligned),
-    }
+    Stop::try_from(code).ok()
 }
 
 fn done_of(outs: &[u32]) -> Done
@@ -214,7 +206,7 @@ impl Outputs {
     {
         let (want, code) = flag_words(self.want);
         let (kind, address, value) = request_words(self.request);
-        let (stopped, how) = flag_words(stop_code(self.stopped));
+        let (stopped, how) = flag_words(self.stopped.map(u32::from));
         let count = self.done.count.min(4);
         let [a, b, c, d] = self.done.at;
         outs.copy_from_slice(&[

@@ -3,8 +3,9 @@ use Rattle.std.proofs.Common.{◌≡◌, ℕ, zero, suc, ◌+◌, ◌<◌, ◌�
 use Rattle.isa.specs.Words.{add}
 use Rattle.isa.specs.Manual.{goes, stops, asks, asked}
 use Rattle.reference.specs.declared.machine.Machine.{Machine}
-use Rattle.reference.specs.declared.trace.Trace.{Trace}
-use Rattle.reference.specs.Machine.{state, written, traced, ret_of}
+use Rattle.pins.specs.declared.ports.Retired.{Retired}
+use Rattle.pins.specs.PortWords.{ret_of}
+use Rattle.reference.specs.Machine.{state, written, traced}
 
 drop_past : (l : List ℕ) (n : ℕ) → length l ≤ n → drop n l ≡ []
 drop_past [] zero h = refl
@@ -21,10 +22,10 @@ module _ (m : Machine) (answers : List ℕ) (r a : ℕ) where
   no_answer h = ap (asked (state m answers) r a) (sym (drop_past answers m.used h))
 
   pub answered : m.used < length answers → (v : ℕ) → v ≡ get_or answers m.used 0
-      → (n : Machine) → n ≡ written (read_on m) r v (add m.pc 4) → (t : Trace) → t ≡ traced m.pc r v
+      → (n : Machine) → n ≡ written (read_on m) r v (add m.pc 4) → (t : Retired) → t ≡ traced m.pc r v
       → goes (state n answers) (ret_of t) (asks a ∷ []) ≡ asked (state m answers) r a (drop m.used answers)
   answered h v ev n en t et =
-      ap₂ (λ (u : Machine) (w : Trace). goes (state u answers) (ret_of w) (asks a ∷ [])) en et
+      ap₂ (λ (u : Machine) (w : Retired). goes (state u answers) (ret_of w) (asks a ∷ [])) en et
       ∙ ap (λ k. asked (state m answers) r a (v ∷ drop k answers)) (add-one m.used)
       ∙ ap (λ x. asked (state m answers) r a (x ∷ drop (suc m.used) answers)) ev
       ∙ ap (asked (state m answers) r a) (sym (drop-cons answers m.used 0 h))

@@ -5,12 +5,13 @@ use Rattle.isa.specs.Runs.{At, with_step}
 use Rattle.isa.proofs.RunSteps.{at_zero, at_suc, rets_suc, evs_suc, run_laws}
 use Rattle.reference.specs.declared.history.History.{History}
 use Rattle.reference.specs.declared.machine.Machine.{Machine}
-use Rattle.reference.specs.declared.trace.Trace.{Trace}
+use Rattle.pins.specs.declared.ports.Retired.{Retired}
 use Rattle.reference.specs.declared.trace.Step.{Step}
 use Rattle.reference.specs.declared.trace.Effect.{Effect}
 use Rattle.reference.specs.declared.trace.End.{End}
 use Rattle.reference.specs.declared.trace.End.TheVariants.{Running}
-use Rattle.reference.specs.Machine.{ret_of, events_of, next_of, StepsTo}
+use Rattle.pins.specs.PortWords.{ret_of}
+use Rattle.reference.specs.Machine.{events_of, next_of, StepsTo}
 use Rattle.reference.specs.History.{rets_of, evs_of, Ends, HistoryOf, RunsTo}
 
 -- a history in the middle of a run
@@ -39,7 +40,7 @@ on_the_way (Ok h) e l p = absurd (true≢false (sym e))
 on_the_way (Err x) {k = k} e l p = (k, l, p)
 
 module _ {h : History} {c : Code} {s u : S} {n : ℕ} (p : SoFar h c s n u) (g : History) where
-  pub one_more : {v : S} (t : Trace) (e : Option Effect) → goes v (ret_of t) (events_of e) ≡ step c u
+  pub one_more : {v : S} (t : Retired) (e : Option Effect) → goes v (ret_of t) (events_of e) ≡ step c u
       → rets_of g ≡ rets_of h ++ ret_of t ∷ [] → evs_of g ≡ evs_of h ++ events_of e → g.end ≡ h.end → SoFar g c s (n + 1) v
   one_more {v} t e w er ee ed =
       rw (add-one n) (record {

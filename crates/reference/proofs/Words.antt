@@ -13,9 +13,6 @@ picked : (b : Bool) (v : ℕ) (o : Option ℕ) → unwrap_or (cond b (Some v) o)
 picked true v o = refl
 picked false v o = refl
 
-eqb_swap : (x y : ℕ) → eqb x y ≡ eqb y x
-eqb_swap x y = grind arith
-
 pub reads_none : (m : BTreeMap ℕ ℕ) → IsEmpty m → reads m ≡ (λ _. 0)
 reads_none m e i k = ap (λ es. unwrap_or (lookup (λ q. eq_by_cmp nat_cmp k q) es) 0) e i
 

@@ -6,7 +6,8 @@ use Rattle.isa.specs.Runs.{At}
 use Rattle.reference.specs.declared.history.History.{History}
 use Rattle.reference.specs.declared.trace.End.{End}
 use Rattle.reference.specs.declared.trace.End.TheVariants.{Running, Stopped, NoAnswer}
-use Rattle.reference.specs.Machine.{ret_of, event_of}
+use Rattle.pins.specs.PortWords.{ret_of}
+use Rattle.reference.specs.Machine.{event_of}
 
 abbrev pub rets_of : History → List Ret
 rets_of h = map ret_of (vec_items h.traces)

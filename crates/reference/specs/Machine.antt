@@ -1,15 +1,16 @@
 -- The manual's state that a machine stands for, and what a step of it is in the manual.
 use Rattle.std.specs.Prelude.{◌≡◌, ℕ, List, [], ◌∷◌, drop, Some, None, Ok, Err, Option, Result, ◌==◌}
 use Rattle.isa.specs.Words.{pick, put}
-use Rattle.isa.specs.Manual.{S, Ret, Ev, writes, asks, Next, goes, stops, Mem}
+use Rattle.isa.specs.Manual.{S, Ev, writes, asks, Next, goes, stops, Mem}
 use Rattle.isa.specs.Registers.{no_regs}
 use Rattle.isa.specs.Executing.{how}
 use Rattle.reference.specs.declared.machine.Machine.{Machine}
-use Rattle.reference.specs.declared.trace.Trace.{Trace}
+use Rattle.pins.specs.declared.ports.Retired.{Retired}
 use Rattle.reference.specs.declared.trace.Effect.{Effect}
 use Rattle.reference.specs.declared.trace.Effect.TheVariants.{Write, Ask}
 use Rattle.reference.specs.declared.trace.Step.{Step}
 use Rattle.reference.specs.declared.trace.Step.TheVariants.{Done, Stopped, NoAnswer}
+use Rattle.pins.specs.PortWords.{ret_of}
 use Rattle.reference.specs.Memory.{words_of}
 
 -- with all that the devices answer
@@ -27,14 +28,11 @@ abbrev pub moved : Machine → ℕ → Machine
 moved m next = record { regs = m.regs; pc = next; memory = m.memory; used = m.used }
 
 -- the trace then
-abbrev pub traced : ℕ → ℕ → ℕ → Trace
+abbrev pub traced : ℕ → ℕ → ℕ → Retired
 traced pc r v = record { pc = pc; reg = r; value = pick (r == 0) 0 v }
 
-abbrev pub untraced : ℕ → Trace
+abbrev pub untraced : ℕ → Retired
 untraced pc = record { pc = pc; reg = 0; value = 0 }
-
-abbrev pub ret_of : Trace → Ret
-ret_of t = record { pc = t.pc; reg = t.reg; val = t.value }
 
 abbrev pub event_of : Effect → Ev
 event_of (Write a v) = writes a v

@@ -1,14 +1,16 @@
 // What a run did: its traces, what it did to the outside, and how it ended.
 ghost use Rattle.std.specs.Prelude.{◌≡◌, [], ◌∷◌, ◌++◌, OnOk};
-ghost use Rattle.reference.specs.Machine.{ret_of, events_of};
+ghost use Rattle.pins.specs.PortWords.{ret_of};
+ghost use Rattle.reference.specs.Machine.{events_of};
 ghost use Rattle.reference.specs.History.{rets_of, evs_of};
 
-use crate::trace::{Effect, End, Trace};
+use crate::trace::{Effect, End};
+use pins::ports::Retired;
 use std::alloc::{AllocError, Global};
 
 #[derive(Drop)]
 pub struct History {
-    pub traces: Vec<Trace>,
+    pub traces: Vec<Retired>,
     pub effects: Vec<Effect>,
     pub end: End,
 }
@@ -27,7 +29,7 @@ impl History {
     }
 
     // One instruction more.
-    pub(crate) fn push(&mut self, trace: Trace, effect: Option<Effect>) -> Result<(), AllocError>
+    pub(crate) fn push(&mut self, trace: Retired, effect: Option<Effect>) -> Result<(), AllocError>
         ensures traces { OnOk result (rets_of self.new ≡ rets_of self.old ++ ret_of trace ∷ []) }
         ensures effects { OnOk result (evs_of self.new ≡ evs_of self.old ++ events_of effect) }
         ensures end { self.new.end ≡ self.old.end }

@@ -8,11 +8,12 @@ ghost use Rattle.reference.specs.Machine.{started, state, written, moved, traced
 
 use crate::history::History;
 use crate::memory::Memory;
-use crate::trace::{Effect, End, Step, Trace};
+use crate::trace::{Effect, End, Step};
 use isa::devices::DEVICES;
 use isa::execute::{Outcome, perform};
 use isa::reg::Reg;
 use isa::regs::Regs;
+use pins::ports::Retired;
 use std::alloc::{AllocError, Global};
 
 // `used` counts the devices' answers that it has read.
@@ -38,7 +39,7 @@ impl Machine {
     }
 
     // Writes a register and goes on at `next`.
-    fn write(&mut self, rd: Reg, value: u32, next: u32) -> Trace
+    fn write(&mut self, rd: Reg, value: u32, next: u32) -> Retired
         ensures machine { self.new ≡ written self.old rd.number value next }
         ensures trace { result ≡ traced self.old.pc rd.number value }
     {
@@ -46,7 +47,7 @@ impl Machine {
         let reg = u32::from(rd.number);
         self.regs.write(rd, value);
         self.pc = next;
-        Trace {
+        Retired {
             pc,
             reg,
             value: if reg == 0 { 0 } else { value },
@@ -54,13 +55,13 @@ impl Machine {
     }
 
     // Goes on at `next`.
-    fn jump(&mut self, next: u32) -> Trace
+    fn jump(&mut self, next: u32) -> Retired
         ensures machine { self.new ≡ moved self.old next }
         ensures trace { result ≡ untraced self.old.pc }
     {
         let pc = self.pc;
         self.pc = next;
-        Trace {
+        Retired {
             pc,
             reg: 0,
             value: 0,

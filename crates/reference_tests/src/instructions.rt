@@ -38,20 +38,11 @@ struct Shown(Outcome);
 impl fmt::Display for Shown {
     fn fmt<W: fmt::Write>(&self, f: &mut fmt::Formatter<W>) -> fmt::Result {
         match self.0 {
-            Outcome::Write { rd, value, next } => {
-                let rd = rd.number;
-                write!(f, "write {rd} {value} {next}")
-            }
+            Outcome::Write { rd, value, next } => write!(f, "write {} {value} {next}", rd.number),
             Outcome::Jump { next } => write!(f, "jump {next}"),
-            Outcome::Load { rd, address } => {
-                let rd = rd.number;
-                write!(f, "load {rd} {address}")
-            }
+            Outcome::Load { rd, address } => write!(f, "load {} {address}", rd.number),
             Outcome::Store { address, value } => write!(f, "store {address} {value}"),
-            Outcome::Halt(stop) => {
-                let code = stop.code();
-                write!(f, "halt {code}")
-            }
+            Outcome::Halt(stop) => write!(f, "halt {}", u32::from(stop)),
         }
     }
 }
@@ -63,10 +54,13 @@ fn check(rt: &HostRuntime, case: &Case) -> anyhow::Result<()> {
     regs.write(Reg { number: 5 }, case.x);
     regs.write(Reg { number: 6 }, case.y);
     let did = Shown(perform(&regs, case.pc, case.word)).to_string(rt.alloc())?;
-    if did.as_str() != case.does {
-        let name = case.name;
-        let word = case.word;
-        let does = case.does;
+    let Case {
+        name,
+        word,
+        does,
+        ..
+    } = case;
+    if did.as_str() != *does {
         println!(rt; "{name} {word}: {did}, and not {does}")?;
     }
     Ok(())

@@ -1,5 +1,6 @@
 // A small program on the reference: it sums 4 to 1, writes the sum to a device, reads a device, stores what it read and
 // loads it again.
+use pins::ports::Retired;
 use reference::history::History;
 use reference::machine::Machine;
 use reference::memory::Memory;
@@ -12,19 +13,15 @@ const WORDS: [u32; 10] = [
 
 fn code(heap: Global) -> Result<Memory, AllocError> {
     let mut code = Memory::new(heap);
-    let mut number = 0u32;
-    for word in &WORDS {
+    for (number, word) in (0..).zip(&WORDS) {
         code.set(number, *word)?;
-        number = number.wrapping_add(1);
     }
     Ok(code)
 }
 
 fn show_history(rt: &HostRuntime, history: &History) -> anyhow::Result<()> {
     for trace in history.traces.iter() {
-        let pc = trace.pc;
-        let reg = trace.reg;
-        let value = trace.value;
+        let Retired { pc, reg, value } = trace;
         println!(rt; "at {pc}: x{reg} = {value}")?;
     }
     for effect in history.effects.iter() {
@@ -39,26 +36,24 @@ fn show_history(rt: &HostRuntime, history: &History) -> anyhow::Result<()> {
 fn show_end(rt: &HostRuntime, end: End) -> anyhow::Result<()> {
     match end {
         End::Running => println!(rt; "runs on")?,
-        End::Stopped(stop) => {
-            let code = stop.code();
-            println!(rt; "stops with {code}")?;
-        }
+        End::Stopped(stop) => println!(rt; "stops with {}", u32::from(stop))?,
         End::NoAnswer => println!(rt; "waits for a device")?,
     }
     Ok(())
 }
 
-// The program with an answer, and without.
-pub fn show(rt: &HostRuntime) -> anyhow::Result<()> {
+// Up to `count` instructions, with what devices answer.
+fn run(rt: &HostRuntime, answers: &[u32], count: usize) -> anyhow::Result<History> {
     let code = code(rt.alloc())?;
     let mut machine = Machine::new(0, Memory::new(rt.alloc()));
-    let history = machine.run(rt.alloc(), &code, &[99], 100)?;
+    Ok(machine.run(rt.alloc(), &code, answers, count)?)
+}
+
+// The program with an answer, without, and not to its end.
+pub fn show(rt: &HostRuntime) -> anyhow::Result<()> {
+    let history = run(rt, &[99], 100)?;
     show_history(rt, &history)?;
     show_end(rt, history.end)?;
-    let mut machine = Machine::new(0, Memory::new(rt.alloc()));
-    let history = machine.run(rt.alloc(), &code, &[], 100)?;
-    show_end(rt, history.end)?;
-    let mut machine = Machine::new(0, Memory::new(rt.alloc()));
-    let history = machine.run(rt.alloc(), &code, &[], 10)?;
-    show_end(rt, history.end)
+    show_end(rt, run(rt, &[], 100)?.end)?;
+    show_end(rt, run(rt, &[], 10)?.end)
 }

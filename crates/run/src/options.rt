@@ -3,9 +3,10 @@ use asm::program::Placed;
 use sim::delay::Delay;
 use sim::devices::Rest;
 use std::alloc::Global;
-use testbench::args::{read_number, read_numbers, read_placed};
+use testbench::args::{read_numbers, read_placed};
 use testbench::failure::Failure;
 use testbench::files::Format;
+use testbench::options::{FromWords, Words, unknown};
 
 pub const HELP: &str = "run [OPTIONS] PROGRAM
 
@@ -46,7 +47,6 @@ pub struct Options {
     pub seed: u32,
     pub clocks: u32,
     pub quiet: bool,
-    pub help: bool,
     pub vcd: Option<String>,
     pub log: Option<String>,
     pub start: Option<u32>,
@@ -55,55 +55,8 @@ pub struct Options {
     pub rest: Rest,
 }
 
-// The options that take a value.
-#[derive(Clone, Copy)]
-enum Flag {
-    Delay,
-    Random,
-    Seed,
-    Clocks,
-    Vcd,
-    Log,
-    Start,
-    Data,
-    Answers,
-    Devices,
-}
-
-impl Flag {
-    fn from_name(name: &str) -> Option<Flag> {
-        match name {
-            "--delay" => Some(Flag::Delay),
-            "--random" => Some(Flag::Random),
-            "--seed" => Some(Flag::Seed),
-            "--clocks" => Some(Flag::Clocks),
-            "--vcd" => Some(Flag::Vcd),
-            "--log" => Some(Flag::Log),
-            "--start" => Some(Flag::Start),
-            "--data" => Some(Flag::Data),
-            "--answers" => Some(Flag::Answers),
-            "--devices" => Some(Flag::Devices),
-            _ => None,
-        }
-    }
-
-    fn name(self) -> &'static str {
-        match self {
-            Flag::Delay => "--delay",
-            Flag::Random => "--random",
-            Flag::Seed => "--seed",
-            Flag::Clocks => "--clocks",
-            Flag::Vcd => "--vcd",
-            Flag::Log => "--log",
-            Flag::Start => "--start",
-            Flag::Data => "--data",
-            Flag::Answers => "--answers",
-            Flag::Devices => "--devices",
-        }
-    }
-}
-
 impl Options {
+    // Before the first word.
     pub fn new(heap: Global) -> Options {
         Options {
             program: None,
@@ -112,7 +65,6 @@ impl Options {
             seed: 1,
             clocks: 100_000,
             quiet: false,
-            help: false,
             vcd: None,
             log: None,
             start: None,
@@ -121,71 +73,41 @@ impl Options {
             rest: Rest::Zero,
         }
     }
+}
 
-    // From the words after the program's name.
-    pub fn read(heap: Global, words: &[String]) -> Result<Options, Failure> {
-        let mut options = Options::new(heap);
-        let mut waiting = None;
-        for word in words {
-            let word = word.as_str();
-            match waiting {
-                Some(flag) => {
-                    options.set(heap, flag, word)?;
-                    waiting = None;
-                }
-                None => {
-                    waiting = Flag::from_name(word);
-                    if waiting.is_none() {
-                        options.switch(heap, word)?;
-                    }
-                }
-            }
-        }
-        if let Some(flag) = waiting {
-            let name = flag.name();
-            return Err(Failure::Input(format!(in heap; "{name}: no value")?));
-        }
-        Ok(options)
-    }
-
-    // A word that takes no value.
-    fn switch(&mut self, heap: Global, word: &str) -> Result<(), Failure> {
-        match word {
+impl FromWords for Options {
+    fn option(&mut self, name: &str, words: &mut Words) -> Result<(), Failure> {
+        let heap = words.heap;
+        match name {
             "--hex" => self.format = Some(Format::Hex),
             "--quiet" => self.quiet = true,
-            "--help" => self.help = true,
-            _ => {
-                if word.starts_with('-') {
-                    return Err(Failure::Input(format!(in heap; "unknown option '{word}'")?));
-                }
-                if self.program.is_some() {
-                    return Err(Failure::Input(format!(in heap; "a second program '{word}'")?));
-                }
-                self.program = Some(String::from_str(heap, word)?);
-            }
+            "--delay" => self.delay = Delay::Fixed(words.number(name)?),
+            "--random" => self.delay = Delay::UpTo(words.number(name)?),
+            "--seed" => self.seed = words.number(name)?,
+            "--clocks" => self.clocks = words.number(name)?,
+            "--vcd" => self.vcd = Some(String::from_str(heap, words.value(name)?)?),
+            "--log" => self.log = Some(String::from_str(heap, words.value(name)?)?),
+            "--start" => self.start = Some(words.number(name)?),
+            "--data" => read_placed(heap, name, words.value(name)?, &mut self.data)?,
+            "--answers" => read_numbers(heap, name, words.value(name)?, &mut self.answers)?,
+            "--devices" => self.rest = rest(heap, name, words.value(name)?)?,
+            _ => return Err(unknown(heap, name)?),
         }
         Ok(())
     }
 
-    fn set(&mut self, heap: Global, flag: Flag, text: &str) -> Result<(), Failure> {
-        let name = flag.name();
-        match flag {
-            Flag::Delay => self.delay = Delay::Fixed(read_number(heap, name, text)?),
-            Flag::Random => self.delay = Delay::UpTo(read_number(heap, name, text)?),
-            Flag::Seed => self.seed = read_number(heap, name, text)?,
-            Flag::Clocks => self.clocks = read_number(heap, name, text)?,
-            Flag::Vcd => self.vcd = Some(String::from_str(heap, text)?),
-            Flag::Log => self.log = Some(String::from_str(heap, text)?),
-            Flag::Start => self.start = Some(read_number(heap, name, text)?),
-            Flag::Data => read_placed(heap, name, text, &mut self.data)?,
-            Flag::Answers => read_numbers(heap, name, text, &mut self.answers)?,
-            Flag::Devices => match text {
-                "random" => self.rest = Rest::Random,
-                _ => return Err(Failure::Input(format!(in heap;
-                    "{name}: not 'random' but '{text}'"
-                )?)),
-            },
+    fn operand(&mut self, heap: Global, word: &str) -> Result<(), Failure> {
+        if self.program.is_some() {
+            return Err(Failure::Input(format!(in heap; "a second program '{word}'")?));
         }
+        self.program = Some(String::from_str(heap, word)?);
         Ok(())
+    }
+}
+
+fn rest(heap: Global, option: &str, text: &str) -> Result<Rest, Failure> {
+    match text {
+        "random" => Ok(Rest::Random),
+        _ => Err(Failure::Input(format!(in heap; "{option}: not 'random' but '{text}'")?)),
     }
 }

@@ -3,22 +3,18 @@ use crate::options::{HELP, Options};
 use crate::record::Recorder;
 use asm::program::Program;
 use std::alloc::AllocError;
-use std::env;
 use testbench::failure::Failure;
 use testbench::files::{Format, read_program};
-use testbench::session::Session;
+use testbench::options::from_args;
+use testbench::runner;
 use testbench::setup::Setup;
-use testbench::summary::Summary;
 use testbench::trace::show;
 
 pub fn run(rt: &HostRuntime) -> Result<(), Failure> {
     let heap = rt.alloc();
-    let words = env::args(rt)?.skip(1).collect::<Vec<String>>(heap)?;
-    let options = Options::read(heap, &words)?;
-    if options.help {
-        print!(rt; "{HELP}")?;
+    let Some(options) = from_args(rt, Options::new(heap), HELP)? else {
         return Ok(());
-    }
+    };
     let Some(path) = &options.program else {
         return Err(Failure::Input(String::from_str(heap, "no program; see run --help")?));
     };
@@ -44,34 +40,19 @@ fn run_program(rt: &HostRuntime, program: &Program, options: &Options) -> Result
         seed: u64::from(options.seed),
     };
     let mut session = setup.session(rt.alloc())?;
-    let mut recorder = Recorder::create(rt, &options.vcd, &options.log)?;
-    let summary = run_clocks(rt, &mut session, &mut recorder, options)?;
+    let mut recorder = Recorder::create(rt, options, &session)?;
+    let limit = options.clocks;
+    let summary = runner::run(&mut session, u64::from(limit), |session, clock| {
+        recorder.add(session, clock)?;
+        if !options.quiet {
+            show(rt, &session.world.code, clock)?;
+        }
+        Ok(())
+    })?;
     recorder.finish(summary.clocks)?;
     if summary.stopped.is_none() {
-        let limit = options.clocks;
         println!(rt; "not stopped after {limit} clocks")?;
     }
     println!(rt; "{summary}")?;
     Ok(())
-}
-
-// Runs until it stops, or up to the limit of clocks.
-fn run_clocks(
-    rt: &HostRuntime,
-    session: &mut Session,
-    recorder: &mut Recorder,
-    options: &Options,
-) -> Result<Summary, Failure> {
-    let mut summary = Summary::new();
-    for _ in 0..options.clocks {
-        let clock = recorder.clock(session)?;
-        summary.add(&clock);
-        if !options.quiet {
-            show(rt, &session.world.code, &clock)?;
-        }
-        if summary.stopped.is_some() {
-            break;
-        }
-    }
-    Ok(summary)
 }

@@ -1,6 +1,6 @@
 // The files that a run is recorded in.
+use crate::options::Options;
 use first::state::Core;
-use reference::memory::Memory;
 use std::fs::File;
 use std::io::{BufWriter, Write};
 use std::{fs, io};
@@ -14,22 +14,28 @@ use waves::vcd::{Dump, Header, Time};
 struct WaveFile {
     file: BufWriter<File>,
     dump: Dump,
+    // As the next clock begins.
+    core: Core,
 }
 
 impl WaveFile {
-    fn create(rt: &HostRuntime, path: &str) -> Result<WaveFile, Failure> {
+    fn create(rt: &HostRuntime, path: &str, session: &Session) -> Result<WaveFile, Failure> {
         let mut file = create(rt, path)?;
         let header = Header;
         write!(file, "{header}")?;
-        let dump = Dump::new();
-        Ok(WaveFile { file, dump })
+        Ok(WaveFile {
+            file,
+            dump: Dump::new(),
+            core: core(session)?,
+        })
     }
 
-    // A clock, and the core that began it.
-    fn write(&mut self, core: &Core, clock: &Clock) -> io::Result<()> {
-        let sample = Sample::new(core, &clock.inputs, &clock.outputs);
+    fn add(&mut self, session: &Session, clock: &Clock) -> Result<(), Failure> {
+        let sample = Sample::new(&self.core, &clock.inputs, &clock.outputs);
         let changes = self.dump.clock(clock.number, sample);
-        write!(self.file, "{changes}")
+        write!(self.file, "{changes}")?;
+        self.core = core(session)?;
+        Ok(())
     }
 
     // The time at which the last clock ends.
@@ -38,6 +44,10 @@ impl WaveFile {
         writeln!(self.file, "{end}")?;
         self.file.flush()
     }
+}
+
+fn core(session: &Session) -> Result<Core, Failure> {
+    Core::load(session.core()).ok_or(Failure::NoCore)
 }
 
 #[derive(Drop)]
@@ -53,9 +63,10 @@ impl LogFile {
         Ok(LogFile { file, log })
     }
 
-    fn write(&mut self, code: &Memory, clock: &Clock) -> io::Result<()> {
+    fn add(&mut self, session: &Session, clock: &Clock) -> io::Result<()> {
         for retired in clock.done() {
-            let commit = self.log.commit(*retired, code.get(retired.pc / 4));
+            let word = session.world.code.get(retired.pc / 4);
+            let commit = self.log.commit(*retired, word);
             writeln!(self.file, "{commit}")?;
         }
         Ok(())
@@ -70,53 +81,38 @@ pub struct Recorder {
 }
 
 impl Recorder {
-    // Makes the files that have a name.
+    // Makes the files that are asked for.
     pub fn create(
         rt: &HostRuntime,
-        vcd: &Option<String>,
-        log: &Option<String>,
+        options: &Options,
+        session: &Session,
     ) -> Result<Recorder, Failure> {
-        let waves = match vcd {
-            Some(path) => Some(WaveFile::create(rt, path)?),
-            None => None,
-        };
-        let log = match log {
-            Some(path) => Some(LogFile::create(rt, path)?),
-            None => None,
-        };
+        let vcd = options.vcd.as_ref();
+        let waves = vcd
+            .map(|path| WaveFile::create(rt, path, session))
+            .transpose()?;
+        let log = options.log.as_ref();
+        let log = log.map(|path| LogFile::create(rt, path)).transpose()?;
         Ok(Recorder { waves, log })
     }
 
-    // Runs a clock and records it.
-    pub fn clock(&mut self, session: &mut Session) -> Result<Clock, Failure> {
-        let clock = self.clock_waves(session)?;
-        if let Some(mut log) = self.log.take() {
-            log.write(&session.world.code, &clock)?;
-            self.log = Some(log);
+    // A clock, and the session after it.
+    pub fn add(&mut self, session: &Session, clock: &Clock) -> Result<(), Failure> {
+        if let Some(waves) = &mut self.waves {
+            waves.add(session, clock)?;
         }
-        Ok(clock)
-    }
-
-    fn clock_waves(&mut self, session: &mut Session) -> Result<Clock, Failure> {
-        let Some(mut waves) = self.waves.take() else {
-            return session.clock();
-        };
-        let Some(core) = Core::load(session.core()) else {
-            return Err(Failure::NoCore);
-        };
-        let clock = session.clock()?;
-        waves.write(&core, &clock)?;
-        self.waves = Some(waves);
-        Ok(clock)
+        if let Some(log) = &mut self.log {
+            log.add(session, clock)?;
+        }
+        Ok(())
     }
 
     // Writes what is left, after the last clock.
-    pub fn finish(self, clocks: u64) -> io::Result<()> {
-        let Recorder { waves, log } = self;
-        if let Some(mut waves) = waves {
+    pub fn finish(mut self, clocks: u64) -> io::Result<()> {
+        if let Some(waves) = &mut self.waves {
             waves.finish(clocks)?;
         }
-        if let Some(mut log) = log {
+        if let Some(log) = &mut self.log {
             log.file.flush()?;
         }
         Ok(())
@@ -124,8 +120,9 @@ impl Recorder {
 }
 
 fn create(rt: &HostRuntime, path: &str) -> Result<BufWriter<File>, Failure> {
-    match fs::create(rt, path) {
-        Ok(file) => Ok(BufWriter::new(rt.alloc(), file)?),
-        Err(e) => Err(Failure::Input(format!(in rt.alloc(); "{path}: {e}")?)),
-    }
+    let heap = rt.alloc();
+    let file = fs::create(rt, path).try_map_err(|e| Ok(Failure::Input(format!(in heap;
+        "{path}: {e}"
+    )?)))?;
+    Ok(BufWriter::new(heap, file)?)
 }

@@ -32,13 +32,6 @@ pub record KeepsCode (b f : World) : Type 0 where
   pub requests_same : f.requests ≡ b.requests
   pub clock_same : f.clock ≡ b.clock
 
-pub record KeepsRest (b f : World) : Type 0 where
-  pub code_same : f.code ≡ b.code
-  pub data_same : f.«data» ≡ b.«data»
-  pub wants_same : f.wants ≡ b.wants
-  pub told_same : f.told ≡ b.told
-  pub clock_same : f.clock ≡ b.clock
-
 pub record KeepsOpen (b f : World) : Type 0 where
   pub code_same : f.code ≡ b.code
   pub data_same : f.«data» ≡ b.«data»

@@ -17,12 +17,10 @@ pub struct Devices {
 impl Devices {
     // The answer to the read of a device that comes after `told` others.
     pub fn answer(&self, told: usize, rng: &mut Rng) -> u32 {
-        if let Some(word) = self.answers.get(told) {
-            return *word;
-        }
-        match self.rest {
+        let given = self.answers.get(told).copied();
+        given.unwrap_or_else(|| match self.rest {
             Rest::Zero => 0,
             Rest::Random => rng.word(),
-        }
+        })
     }
 }

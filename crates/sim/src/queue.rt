@@ -1,7 +1,9 @@
 // What is asked and not yet answered.
-ghost use Rattle.std.specs.Prelude.{◌≡◌, ℕ, ◌≤◌, [], ◌∷◌, ◌++◌, MatchOption, OnOk, nat_le};
-ghost use Rattle.std.specs.VecDeque.{deque_len};
+ghost use Rattle.std.specs.Prelude.{◌≡◌, ℕ, ◌≤◌, [], ◌∷◌, ◌++◌, MatchOption, OnOk, Some, nat_le};
+ghost use Rattle.std.specs.VecDeque.{deque_len, deque_items};
+ghost use Rattle.sim.specs.Worlds.{Adds};
 
+use crate::error::WorldError;
 use std::alloc::{AllocFailed, Global};
 use std::collections::VecDeque;
 
@@ -42,15 +44,22 @@ impl<T: Copy> Queue<T> {
         self.items.push_back(Open { asked, due })
     }
 
+    // The same, or `full` where no more may be open.
+    pub(crate) fn ask(&mut self, asked: T, due: u64, full: WorldError) -> Result<(), WorldError>
+        ensures { OnOk result (Adds (deque_items self.old.items) (deque_items self.new.items) (Some asked)) }
+    {
+        if self.is_full() {
+            return Err(full);
+        }
+        self.push(asked, due)?;
+        Ok(())
+    }
+
     // Takes the oldest, if this clock may answer it.
     pub fn pop(&mut self, clock: u64) -> Option<T>
         ensures { MatchOption result (self.new.items.items ≡ self.old.items.items) (λ x. (due : ℕ) × (self.old.items.items ≡ record { asked = x; due = due } ∷ self.new.items.items) × (due ≤ clock)) }
     {
-        let due = self.items.front()?.due;
-        if clock < due {
-            return None;
-        }
-        let oldest = self.items.pop_front()?;
+        let oldest = self.items.pop_front_if(|open| open.due <= clock)?;
         Some(oldest.asked)
     }
 }

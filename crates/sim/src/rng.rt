@@ -1,5 +1,5 @@
 // Random numbers from a seed, so that a run can be repeated: splitmix64.
-ghost use Rattle.std.specs.Prelude.{◌≡◌, ◌/◌, ◌^◌, ◌<◌};
+ghost use Rattle.std.specs.Prelude.{◌≡◌, ◌/◌, ◌^◌, ◌<◌, length, Contains};
 
 #[derive(Clone, Copy)]
 pub struct Rng {
@@ -27,6 +27,16 @@ impl Rng {
             return 0;
         }
         self.word() % bound
+    }
+
+    // One of several.
+    pub fn pick<T: Copy>(&mut self, choices: &[T]) -> T
+        requires some { 0 < length choices.now }
+        requires countable { length choices.now < 2 ^ 32 }
+        ensures { Contains choices.now result }
+    {
+        let place = self.below(choices.len() as u32);
+        choices[place as usize]
     }
 }
 

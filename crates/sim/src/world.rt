@@ -1,6 +1,6 @@
 // Memories and devices, clock by clock.
-ghost use Rattle.std.specs.Prelude.{IfOk, Some, OnOk};
-ghost use Rattle.sim.specs.Worlds.{open_wants, open_requests, Fetches, Answers, Gives, Adds, Takes, KeepsCode, KeepsData, KeepsRest, KeepsOpen};
+ghost use Rattle.std.specs.Prelude.{IfOk, OnOk};
+ghost use Rattle.sim.specs.Worlds.{Fetches, Answers, Gives, Takes, KeepsCode, KeepsData, KeepsOpen};
 
 use crate::delay::Delay;
 use crate::devices::Devices;
@@ -54,6 +54,7 @@ impl World {
         ensures { IfOk result (λ i. Gives self.old self.new i) }
     {
         let code = self.fetch();
+        // No `map`: its contract says nothing of the world that the closure would change.
         let answer = match self.requests.pop(self.clock) {
             Some(request) => Some(self.answer(request)?),
             None => None,
@@ -95,36 +96,15 @@ impl World {
         ensures { OnOk result (Takes self.old self.new outs.now) }
     {
         if let Some(address) = outs.want {
-            self.take_want(address)?;
+            let due = self.due();
+            self.wants.ask(address, due, WorldError::TooManyWants)?;
         }
         if let Some(request) = outs.request {
-            self.take_request(request)?;
+            let due = self.due();
+            self.requests
+                .ask(request, due, WorldError::TooManyRequests)?;
         }
         self.clock = self.clock.saturating_add(1);
-        Ok(())
-    }
-
-    fn take_want(&mut self, address: u32) -> Result<(), WorldError>
-        ensures want { OnOk result (Adds (open_wants self.old) (open_wants self.new) (Some address)) }
-        ensures rest { KeepsData self.old self.new }
-    {
-        if self.wants.is_full() {
-            return Err(WorldError::TooManyWants);
-        }
-        let due = self.due();
-        self.wants.push(address, due)?;
-        Ok(())
-    }
-
-    fn take_request(&mut self, request: Request) -> Result<(), WorldError>
-        ensures request { OnOk result (Adds (open_requests self.old) (open_requests self.new) (Some request)) }
-        ensures rest { KeepsRest self.old self.new }
-    {
-        if self.requests.is_full() {
-            return Err(WorldError::TooManyRequests);
-        }
-        let due = self.due();
-        self.requests.push(request, due)?;
         Ok(())
     }
 

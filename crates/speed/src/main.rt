@@ -3,10 +3,10 @@
 
 mod rig;
 
-use anyhow::anyhow;
+use anyhow::Context;
 use rig::Rig;
-use std::env;
 use std::time::Instant;
+use std::{env, fmt};
 
 // As many clocks as the program was asked for, or a thousand.
 fn count(rt: &HostRuntime) -> anyhow::Result<u64> {
@@ -16,30 +16,41 @@ fn count(rt: &HostRuntime) -> anyhow::Result<u64> {
     }
 }
 
-fn nanoseconds_each(total: u128, count: u64) -> u128 {
-    if count == 0 {
-        0
-    } else {
-        total.saturating_mul(10) / count as u128
+// A time, in tenths of nanoseconds.
+#[derive(Clone, Copy)]
+struct Tenths(u128);
+
+// `81.3 ns`
+impl fmt::Display for Tenths {
+    fn fmt<W: fmt::Write>(&self, f: &mut fmt::Formatter<W>) -> fmt::Result {
+        let whole = self.0 / 10;
+        let tenth = self.0 % 10;
+        write!(f, "{whole}.{tenth} ns")
     }
 }
 
-fn timed(rt: &HostRuntime, rig: &mut Rig, count: u64) -> anyhow::Result<()> {
+// What a call answers, and the time that it takes for each of a number of clocks.
+fn timed<R: Drop, F: FnOnce() -> R>(
+    rt: &HostRuntime,
+    count: u64,
+    call: F,
+) -> anyhow::Result<(R, Tenths)>
+    requires { F.pre call }
+{
     let start = Instant::now(rt)?;
-    rig.clocks(count);
-    let clocks = start.elapsed(rt)?.as_nanos();
-    let start = Instant::now(rt)?;
-    let stepped = rig.steps(count);
-    let steps = start.elapsed(rt)?.as_nanos();
-    if !stepped {
-        return Err(anyhow!("the core refuses its own words"));
-    }
-    let all = nanoseconds_each(clocks, count);
-    let words = all.saturating_sub(nanoseconds_each(steps, count));
-    let (whole, tenth) = (all / 10, all % 10);
-    println!(rt; "{whole}.{tenth} ns a clock")?;
-    let (whole, tenth) = (words / 10, words % 10);
-    println!(rt; "{whole}.{tenth} ns of it reading and writing the words")?;
+    let answer = call();
+    let total = start.elapsed(rt)?.as_nanos();
+    let each = total.saturating_mul(10).checked_div(u128::from(count));
+    Ok((answer, Tenths(each.unwrap_or(0))))
+}
+
+fn show_times(rt: &HostRuntime, rig: &mut Rig, count: u64) -> anyhow::Result<()> {
+    let (_, all) = timed(rt, count, || rig.clocks(count))?;
+    let (stepped, steps) = timed(rt, count, || rig.steps(count))?;
+    stepped.context("the core refuses its own words")?;
+    let words = Tenths(all.0.saturating_sub(steps.0));
+    println!(rt; "{all} a clock")?;
+    println!(rt; "{words} of it reading and writing the words")?;
     Ok(())
 }
 
@@ -47,7 +58,7 @@ fn run(rt: &HostRuntime) -> anyhow::Result<()> {
     let count = count(rt)?;
     let mut rig = Rig::new(rt.alloc())?;
     if count > 1_000_000 {
-        timed(rt, &mut rig, count)?;
+        show_times(rt, &mut rig, count)?;
     } else {
         rig.clocks(count);
     }

@@ -33,10 +33,9 @@ impl Rig {
     }
 
     fn answer(&mut self) {
-        let wants = self.outs[0];
-        let address = self.outs[1];
+        let [wants, address, _, _, _, _, _, done, ..] = self.outs;
         self.ins = [wants, LOOP[(address / 4 % 4) as usize], 0, 0];
-        self.retired = self.retired.wrapping_add(self.outs[7] as u64);
+        self.retired = self.retired.wrapping_add(u64::from(done));
     }
 
     pub fn clocks(&mut self, count: u64) {
@@ -45,25 +44,22 @@ impl Rig {
         }
     }
 
-    // The same on a core by value, which stays out of its words meanwhile. False where they are no core.
-    pub fn steps(&mut self, count: u64) -> bool {
-        let Some(mut core) = Core::load(&self.core) else {
-            return false;
-        };
+    // The same on a core by value, which stays out of its words meanwhile. None where they are no core.
+    pub fn steps(&mut self, count: u64) -> Option<()> {
+        let mut core = Core::load(&self.core)?;
         for _ in 0..count {
-            self.step(&mut core);
+            self.step(&mut core)?;
         }
         if self.core.len() >= 65536 {
             core.save(&mut self.core);
         }
-        true
+        Some(())
     }
 
-    fn step(&mut self, core: &mut Core) {
-        let Some(inputs) = Inputs::read(&self.ins) else {
-            return;
-        };
+    fn step(&mut self, core: &mut Core) -> Option<()> {
+        let inputs = Inputs::read(&self.ins)?;
         core.clock(inputs).write(&mut self.outs);
         self.answer();
+        Some(())
     }
 }

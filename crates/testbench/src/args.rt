@@ -6,10 +6,9 @@ use std::alloc::Global;
 
 // A number, decimal or `0x` and hexadecimal.
 pub fn read_number(heap: Global, option: &str, text: &str) -> Result<u32, Failure> {
-    match number(text) {
-        Ok(n) => Ok(n),
-        Err(_) => Err(Failure::Input(format!(in heap; "{option}: no number '{text}'")?)),
-    }
+    number(text).try_map_err(|_| Ok(Failure::Input(format!(in heap;
+        "{option}: no number '{text}'"
+    )?)))
 }
 
 // Numbers with commas between them, added to a list.

@@ -1,12 +1,12 @@
 // What is promised at the ports, checked clock by clock against the manual.
-use crate::effects::{effect_of, next_effect, same_effect};
+use crate::effects::next_effect;
 use crate::mismatch::{CheckError, Mismatch};
 use crate::session::Clock;
 use isa::execute::Stop;
-use pins::ports::{Inputs, Outputs, Request, Retired};
+use pins::ports::{Inputs, Outputs, Retired};
 use reference::machine::Machine;
 use reference::memory::Memory;
-use reference::trace::{Effect, Step, Trace};
+use reference::trace::{Effect, Step};
 use std::alloc::Global;
 use std::collections::VecDeque;
 
@@ -17,17 +17,32 @@ struct Owed {
     clock: u64,
 }
 
+// How many words of code, or requests, are open.
+#[derive(Clone, Copy, Default)]
+struct Open(u32);
+
+impl Open {
+    // One clock more.
+    fn count(&mut self, answered: bool, asked: bool) {
+        let left = self.0.saturating_sub(u32::from(answered));
+        self.0 = left.saturating_add(u32::from(asked));
+    }
+
+    fn is_too_many(self) -> bool {
+        self.0 > 4
+    }
+}
+
 // The manual after the instructions that are done.
 #[derive(Drop)]
 pub struct Checker {
     code: Memory,
     machine: Machine,
-    // Effects of what is done, to be asked yet; effects asked, of what is to be done yet. One of the two is empty.
+    // Effects of what is done, to be asked yet; or the effect asked, of what is to be done next.
     owed: VecDeque<Owed>,
-    early: VecDeque<Effect>,
-    // How many words of code and requests are open.
-    wants: u32,
-    requests: u32,
+    early: Option<Effect>,
+    wants: Open,
+    requests: Open,
     // In so many clocks an instruction is done, and what is owed is asked.
     patience: u64,
     clock: u64,
@@ -41,9 +56,9 @@ impl Checker {
             code,
             machine,
             owed: VecDeque::new(heap),
-            early: VecDeque::new(heap),
-            wants: 0,
-            requests: 0,
+            early: None,
+            wants: Open::default(),
+            requests: Open::default(),
             patience: 64 + 16 * u64::from(most),
             clock: 0,
             idle: 0,
@@ -56,8 +71,8 @@ impl Checker {
         for retired in clock.done() {
             self.check_retired(told, *retired)?;
         }
-        if let Some(request) = clock.outputs.request {
-            self.check_request(request)?;
+        if let Some(effect) = clock.effect() {
+            self.check_asked(effect)?;
         }
         self.check_order()?;
         if let Some(stop) = clock.outputs.stopped {
@@ -70,16 +85,14 @@ impl Checker {
 
     // At most four words of code and four requests are open.
     fn check_open(&mut self, inputs: &Inputs, outputs: &Outputs) -> Result<(), Mismatch> {
-        self.wants = open(self.wants, inputs.code.is_some(), outputs.want.is_some());
-        self.requests = open(
-            self.requests,
-            inputs.answer.is_some(),
-            outputs.request.is_some(),
-        );
-        if self.wants > 4 {
+        self.wants
+            .count(inputs.code.is_some(), outputs.want.is_some());
+        self.requests
+            .count(inputs.answer.is_some(), outputs.request.is_some());
+        if self.wants.is_too_many() {
             return Err(Mismatch::TooManyWants);
         }
-        if self.requests > 4 {
+        if self.requests.is_too_many() {
             return Err(Mismatch::TooManyRequests);
         }
         Ok(())
@@ -89,56 +102,43 @@ impl Checker {
     fn check_retired(&mut self, told: &[u32], core: Retired) -> Result<(), CheckError> {
         match self.machine.step(&self.code, told)? {
             Step::Done { trace, effect } => {
-                if !same_trace(trace, core) {
-                    return Err(CheckError::Differs(Mismatch::Done {
+                if core != trace {
+                    return Err(Mismatch::Done {
                         core,
                         manual: trace,
-                    }));
+                    }
+                    .into());
                 }
-                match effect {
-                    Some(effect) => self.check_effect(effect),
-                    None => Ok(()),
+                if let Some(effect) = effect {
+                    self.check_effect(effect)?;
                 }
+                Ok(())
             }
-            Step::Stopped(_) => Err(CheckError::Differs(Mismatch::DoneAfterStop { core })),
-            Step::NoAnswer => Err(CheckError::Differs(Mismatch::DoneUnanswered { core })),
+            Step::Stopped(_) => Err(Mismatch::DoneAfterStop { core }.into()),
+            Step::NoAnswer => Err(Mismatch::DoneUnanswered { core }.into()),
         }
     }
 
     // An instruction that is done has an effect: it was asked already, or is owed.
-    fn check_effect(&mut self, manual: Effect) -> Result<(), CheckError> {
-        match self.early.pop_front() {
-            Some(core) if !same_effect(core, manual) => {
-                Err(CheckError::Differs(Mismatch::Asked { core, manual }))
-            }
-            Some(_) => Ok(()),
-            None => {
-                let clock = self.clock;
-                self.owed.push_back(Owed {
-                    effect: manual,
-                    clock,
-                })?;
-                Ok(())
-            }
+    fn check_effect(&mut self, effect: Effect) -> Result<(), CheckError> {
+        if let Some(core) = self.early.take() {
+            return Ok(same(core, effect)?);
         }
+        let clock = self.clock;
+        self.owed.push_back(Owed { effect, clock })?;
+        Ok(())
     }
 
-    // A request with an effect: it is the oldest that is owed, or early.
-    fn check_request(&mut self, request: Request) -> Result<(), CheckError> {
-        let Some(core) = effect_of(request) else {
-            return Ok(());
-        };
-        match self.owed.pop_front() {
-            Some(owed) if !same_effect(core, owed.effect) => {
-                let manual = owed.effect;
-                Err(CheckError::Differs(Mismatch::Asked { core, manual }))
-            }
-            Some(_) => Ok(()),
-            None => {
-                self.early.push_back(core)?;
-                Ok(())
-            }
+    // An effect is asked: it is the oldest that is owed, or early. Only one may be early.
+    fn check_asked(&mut self, core: Effect) -> Result<(), Mismatch> {
+        if let Some(owed) = self.owed.pop_front() {
+            return same(core, owed.effect);
         }
+        if self.early.is_some() {
+            return Err(Mismatch::AskedEarly { core });
+        }
+        self.early = Some(core);
+        Ok(())
     }
 
     // Of what is not done only the next instruction's effect is asked; and at most eight are owed.
@@ -146,32 +146,23 @@ impl Checker {
         if self.owed.len() > 8 {
             return Err(Mismatch::Behind);
         }
-        let Some(core) = self.early.back() else {
+        let Some(core) = self.early else {
             return Ok(());
         };
-        let core = *core;
-        if self.early.len() > 1 {
-            return Err(Mismatch::AskedEarly { core });
-        }
-        match next_effect(&self.machine, &self.code) {
-            Some(manual) if same_effect(core, manual) => Ok(()),
-            Some(manual) => Err(Mismatch::Asked { core, manual }),
-            None => Err(Mismatch::AskedEarly { core }),
-        }
+        let next = next_effect(&self.machine, &self.code);
+        same(core, next.ok_or(Mismatch::AskedEarly { core })?)
     }
 
     // It stops as the manual does, with everything asked.
     fn check_stop(&mut self, told: &[u32], core: Stop) -> Result<(), CheckError> {
         if let Some(owed) = self.owed.front() {
             let effect = owed.effect;
-            return Err(CheckError::Differs(Mismatch::StoppedWithout { effect }));
+            return Err(Mismatch::StoppedWithout { effect }.into());
         }
         match self.machine.step(&self.code, told)? {
-            Step::Stopped(manual) if manual.code() == core.code() => Ok(()),
-            Step::Stopped(manual) => {
-                Err(CheckError::Differs(Mismatch::Stopped { core, manual }))
-            }
-            _ => Err(CheckError::Differs(Mismatch::StoppedEarly { core })),
+            Step::Stopped(manual) if core == manual => Ok(()),
+            Step::Stopped(manual) => Err(Mismatch::Stopped { core, manual }.into()),
+            _ => Err(Mismatch::StoppedEarly { core }.into()),
         }
     }
 
@@ -192,15 +183,11 @@ impl Checker {
     }
 }
 
-fn open(before: u32, answered: bool, asked: bool) -> u32 {
-    let left = if answered {
-        before.saturating_sub(1)
+// What the core asks is what the manual asks.
+fn same(core: Effect, manual: Effect) -> Result<(), Mismatch> {
+    if core == manual {
+        Ok(())
     } else {
-        before
-    };
-    if asked { left.saturating_add(1) } else { left }
-}
-
-fn same_trace(a: Trace, b: Retired) -> bool {
-    a.pc == b.pc && a.reg == b.reg && a.value == b.value
+        Err(Mismatch::Asked { core, manual })
+    }
 }

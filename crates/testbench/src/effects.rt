@@ -23,20 +23,3 @@ pub fn next_effect(machine: &Machine, code: &Memory) -> Option<Effect> {
         _ => None,
     }
 }
-
-pub fn same_effect(a: Effect, b: Effect) -> bool {
-    match (a, b) {
-        (Effect::Ask { address: p }, Effect::Ask { address: q }) => p == q,
-        (
-            Effect::Write {
-                address: p,
-                value: x,
-            },
-            Effect::Write {
-                address: q,
-                value: y,
-            },
-        ) => { p == q && x == y }
-        _ => false,
-    }
-}

@@ -3,7 +3,8 @@ use crate::failure::Failure;
 use asm::assemble::assemble;
 use asm::hex::read_hex;
 use asm::program::Program;
-use std::fs;
+use std::alloc::Global;
+use std::{fmt, fs};
 
 // The text of a program.
 #[derive(Clone, Copy)]
@@ -15,7 +16,10 @@ pub enum Format {
 impl Format {
     // By a file's name.
     pub fn of(path: &str) -> Format {
-        if path.ends_with(".hex") || path.ends_with(".vh") || path.ends_with(".mem") {
+        if [".hex", ".vh", ".mem"]
+            .iter()
+            .any(|end| path.ends_with(*end))
+        {
             Format::Hex
         } else {
             Format::Assembly
@@ -25,16 +29,15 @@ impl Format {
 
 pub fn read_program(rt: &HostRuntime, path: &str, format: Format) -> Result<Program, Failure> {
     let heap = rt.alloc();
-    let text = match fs::read_to_string(rt, path) {
-        Ok(text) => text,
-        Err(e) => return Err(Failure::Input(format!(in heap; "{path}: {e}")?)),
-    };
+    let text = fs::read_to_string(rt, path).try_map_err(|e| at(heap, path, &e))?;
     let program = match format {
-        Format::Assembly => assemble(heap, text.as_str()),
-        Format::Hex => read_hex(heap, text.as_str()),
+        Format::Assembly => assemble(heap, &text),
+        Format::Hex => read_hex(heap, &text),
     };
-    match program {
-        Ok(program) => Ok(program),
-        Err(e) => Err(Failure::Input(format!(in heap; "{path}: {e}")?)),
-    }
+    program.try_map_err(|e| at(heap, path, &e))
+}
+
+// What is wrong with a file.
+fn at(heap: Global, path: &str, e: &impl fmt::Display) -> Result<Failure, Failure> {
+    Ok(Failure::Input(format!(in heap; "{path}: {e}")?))
 }

@@ -85,6 +85,7 @@ impl Generator {
         Ok(())
     }
 
+    // One of these, each as often as it has numbers out of 32.
     fn add_random(&mut self) -> Result<(), AllocError> {
         match self.rng.below(32) {
             0..=4 => self.add_alu_imm(),
@@ -104,16 +105,16 @@ impl Generator {
 
     // x0, or one of six.
     fn register(&mut self) -> Reg {
-        let n = self.rng.below(7);
-        let number = if n == 0 { 0 } else { (n + 3) as u8 };
+        let number = self.rng.pick(&[0, 4, 5, 6, 7, 8, 9]);
         Reg { number }
     }
 
     // A small number, often negative, or any of twelve bits.
     fn immediate(&mut self) -> u32 {
-        match self.rng.below(3) {
-            0 => self.rng.below(4096).wrapping_sub(2048),
-            _ => self.rng.below(16).wrapping_sub(8),
+        if self.rng.below(3) == 0 {
+            self.rng.below(4096).wrapping_sub(2048)
+        } else {
+            self.rng.below(16).wrapping_sub(8)
         }
     }
 
@@ -138,12 +139,9 @@ impl Generator {
     }
 
     fn add_muldiv(&mut self) -> Result<(), AllocError> {
-        let op = match self.rng.below(4) {
-            0 => MulOp::Mul,
-            1 => MulOp::Mulhu,
-            2 => MulOp::Divu,
-            _ => MulOp::Remu,
-        };
+        let op = self
+            .rng
+            .pick(&[MulOp::Mul, MulOp::Mulhu, MulOp::Divu, MulOp::Remu]);
         let rd = self.register();
         let rs1 = self.register();
         let rs2 = self.register();
@@ -151,18 +149,18 @@ impl Generator {
     }
 
     fn alu_op(&mut self) -> AluOp {
-        match self.rng.below(10) {
-            0 => AluOp::Add,
-            1 => AluOp::Sub,
-            2 => AluOp::Sll,
-            3 => AluOp::Slt,
-            4 => AluOp::Sltu,
-            5 => AluOp::Xor,
-            6 => AluOp::Srl,
-            7 => AluOp::Sra,
-            8 => AluOp::Or,
-            _ => AluOp::And,
-        }
+        self.rng.pick(&[
+            AluOp::Add,
+            AluOp::Sub,
+            AluOp::Sll,
+            AluOp::Slt,
+            AluOp::Sltu,
+            AluOp::Xor,
+            AluOp::Srl,
+            AluOp::Sra,
+            AluOp::Or,
+            AluOp::And,
+        ])
     }
 
     // Data three times out of four, else a device; one of four words.
@@ -191,14 +189,7 @@ impl Generator {
     }
 
     fn add_branch(&mut self) -> Result<(), AllocError> {
-        let cond = match self.rng.below(6) {
-            0 => Cond::Eq,
-            1 => Cond::Ne,
-            2 => Cond::Lt,
-            3 => Cond::Ge,
-            4 => Cond::Ltu,
-            _ => Cond::Geu,
-        };
+        let cond = self.rng.pick(&[Cond::Eq, Cond::Ne, Cond::Lt, Cond::Ge, Cond::Ltu, Cond::Geu]);
         let rs1 = self.register();
         let rs2 = self.register();
         let offset = self.forward();
@@ -213,11 +204,10 @@ impl Generator {
     fn add_upper(&mut self) -> Result<(), AllocError> {
         let rd = self.register();
         let imm = self.rng.word() & 0xffff_f000;
-        if self.rng.below(2) == 0 {
-            self.add(Instr::Lui { rd, imm })
-        } else {
-            self.add(Instr::Auipc { rd, imm })
-        }
+        let instr = self
+            .rng
+            .pick(&[Instr::Lui { rd, imm }, Instr::Auipc { rd, imm }]);
+        self.add(instr)
     }
 
     fn add_jump(&mut self) -> Result<(), AllocError> {

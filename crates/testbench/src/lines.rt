@@ -4,7 +4,7 @@ use asm::names::register_name;
 use isa::execute::Stop;
 use isa::reg::Reg;
 use pins::ports::Retired;
-use reference::trace::{Effect, Trace};
+use reference::trace::Effect;
 use std::alloc::{AllocError, Global};
 use std::fmt;
 
@@ -28,33 +28,10 @@ impl fmt::Display for Shown<Retired> {
     fn fmt<W: fmt::Write>(&self, f: &mut fmt::Formatter<W>) -> fmt::Result {
         let pc = self.0.pc;
         write!(f, "{pc:#010x}")?;
-        write_register(f, " ", self.0.reg, self.0.value)
-    }
-}
-
-impl fmt::Display for Shown<Trace> {
-    fn fmt<W: fmt::Write>(&self, f: &mut fmt::Formatter<W>) -> fmt::Result {
-        let pc = self.0.pc;
-        write!(f, "{pc:#010x}")?;
-        write_register(f, " ", self.0.reg, self.0.value)
-    }
-}
-
-// What was written, or nothing where that is no register.
-fn write_register<W: fmt::Write>(
-    f: &mut fmt::Formatter<W>,
-    before: &str,
-    reg: u32,
-    value: u32,
-) -> fmt::Result {
-    let value = Word(value);
-    match reg {
-        0 => Ok(()),
-        1..=31 => {
-            let name = register_name(Reg { number: reg as u8 });
-            write!(f, "{before}{name} = {value}")
+        if let Some(wrote) = Wrote::of(self.0) {
+            write!(f, " {wrote}")?;
         }
-        _ => write!(f, "{before}x{reg} = {value}"),
+        Ok(())
     }
 }
 
@@ -87,20 +64,34 @@ struct Wrote {
     value: u32,
 }
 
+impl Wrote {
+    // None where it wrote no register.
+    fn of(retired: Retired) -> Option<Wrote> {
+        let Retired { reg, value, .. } = retired;
+        (reg != 0).then_some(Wrote { reg, value })
+    }
+}
+
 impl fmt::Display for Wrote {
     fn fmt<W: fmt::Write>(&self, f: &mut fmt::Formatter<W>) -> fmt::Result {
-        write_register(f, "", self.reg, self.value)
+        let reg = self.reg;
+        let value = Word(self.value);
+        if reg < 32 {
+            let name = register_name(Reg { number: reg as u8 });
+            write!(f, "{name} = {value}")
+        } else {
+            write!(f, "x{reg} = {value}")
+        }
     }
 }
 
 // An instruction that is done, with its word: `0x00000000  addi t0, zero, 4          t0 = 4 (0x00000004)`.
 pub fn instruction(heap: Global, retired: Retired, word: u32) -> Result<String, AllocError> {
-    let Retired { pc, reg, value } = retired;
+    let pc = retired.pc;
     let listing = Listing { pc, word };
-    if reg == 0 {
+    let Some(wrote) = Wrote::of(retired) else {
         return format!(in heap; "{pc:#010x}  {listing}");
-    }
+    };
     let text = listing.to_string(heap)?;
-    let wrote = Wrote { reg, value };
     format!(in heap; "{pc:#010x}  {text:<24}  {wrote}")
 }

@@ -1,120 +1,72 @@
 // How a core can differ from the manual.
+use crate::failure::Failure;
 use crate::lines::Shown;
 use isa::execute::Stop;
 use pins::ports::Retired;
-use reference::trace::{Effect, Trace};
-use std::alloc::{AllocError, AllocFailed};
-use std::fmt;
+use reference::trace::Effect;
+use sim::error::WorldError;
+use std::alloc::AllocError;
+use thiserror::Error;
 
-#[derive(Clone, Copy)]
+#[derive(Clone, Copy, Debug, Error)]
 pub enum Mismatch {
     // An instruction is done; the manual does another, or has stopped, or has no answer of a device yet.
-    Done { core: Retired, manual: Trace },
+    #[error("the core has done {}, the manual does {}", Shown(*.core), Shown(*.manual))]
+    Done { core: Retired, manual: Retired },
+    #[error("the core has done {}, the manual stops", Shown(*.core))]
     DoneAfterStop { core: Retired },
+    #[error("the core has done {}, which no device has answered", Shown(*.core))]
     DoneUnanswered { core: Retired },
     // A request; the manual makes another, or none yet.
+    #[error("the core's request is {}, the manual's {}", Shown(*.core), Shown(*.manual))]
     Asked { core: Effect, manual: Effect },
+    #[error("the core's request is {}, the manual does not make it yet", Shown(*.core))]
     AskedEarly { core: Effect },
-    // More than eight requests are still to be made.
+    #[error("more than eight requests are still to be made")]
     Behind,
     // It stops; the manual stops otherwise, or does not, or something is still to be asked.
+    #[error("the core stops with {}, the manual with {}", Shown(*.core), Shown(*.manual))]
     Stopped { core: Stop, manual: Stop },
+    #[error("the core stops with {}, the manual goes on", Shown(*.core))]
     StoppedEarly { core: Stop },
+    #[error("the core stops without the request {}", Shown(*.effect))]
     StoppedWithout { effect: Effect },
-    // More than four words of code, or requests, are open.
+    // Asked and not answered.
+    #[error("more than four words of code are open")]
     TooManyWants,
+    #[error("more than four requests are open")]
     TooManyRequests,
-    // Nothing done, or a request not made, for too many clocks.
+    // For too many clocks.
+    #[error("nothing was done in {clocks} clocks")]
     Idle { clocks: u64 },
+    #[error("the request {} is late", Shown(*.effect))]
     Late { effect: Effect },
-    // The core refuses its own words, or shows what has no meaning.
+    #[error("the core refuses its own words")]
     NoCore,
+    #[error("what the core shows has no meaning")]
     NoOutputs,
 }
 
+// A clock that the core or the world refuses is a difference; any other failure is handed back.
+impl TryFrom<Failure> for Mismatch {
+    type Error = Failure;
+
+    fn try_from(failure: Failure) -> Result<Mismatch, Failure> {
+        match failure {
+            Failure::NoCore => Ok(Mismatch::NoCore),
+            Failure::NoOutputs => Ok(Mismatch::NoOutputs),
+            Failure::World(WorldError::TooManyWants) => Ok(Mismatch::TooManyWants),
+            Failure::World(WorldError::TooManyRequests) => Ok(Mismatch::TooManyRequests),
+            other => Err(other),
+        }
+    }
+}
+
 // A check that did not pass, or found no memory.
-#[derive(Clone, Copy)]
+#[derive(Clone, Copy, Debug, Error)]
 pub enum CheckError {
-    Differs(Mismatch),
-    NoMemory,
-}
-
-impl From<Mismatch> for CheckError {
-    fn from(mismatch: Mismatch) -> CheckError {
-        CheckError::Differs(mismatch)
-    }
-}
-
-impl From<AllocError> for CheckError {
-    fn from(_e: AllocError) -> CheckError {
-        CheckError::NoMemory
-    }
-}
-
-impl<T: Drop> From<AllocFailed<T>> for CheckError {
-    fn from(_e: AllocFailed<T>) -> CheckError {
-        CheckError::NoMemory
-    }
-}
-
-impl fmt::Display for Mismatch {
-    fn fmt<W: fmt::Write>(&self, f: &mut fmt::Formatter<W>) -> fmt::Result {
-        match self {
-            Mismatch::Done { core, manual } => {
-                let core = Shown(*core);
-                let manual = Shown(*manual);
-                write!(f, "the core has done {core}, the manual does {manual}")
-            }
-            Mismatch::DoneAfterStop { core } => {
-                let core = Shown(*core);
-                write!(f, "the core has done {core}, the manual stops")
-            }
-            Mismatch::DoneUnanswered { core } => {
-                let core = Shown(*core);
-                write!(f, "the core has done {core}, which no device has answered")
-            }
-            Mismatch::Asked { core, manual } => {
-                let core = Shown(*core);
-                let manual = Shown(*manual);
-                write!(f, "the core's request is {core}, the manual's {manual}")
-            }
-            Mismatch::AskedEarly { core } => {
-                let core = Shown(*core);
-                write!(
-                    f,
-                    "the core's request is {core}, the manual does not make it yet"
-                )
-            }
-            Mismatch::Behind => write!(f, "more than eight requests are still to be made"),
-            _ => write_rest(f, *self),
-        }
-    }
-}
-
-// Of stopping, what is open, and time.
-fn write_rest<W: fmt::Write>(f: &mut fmt::Formatter<W>, mismatch: Mismatch) -> fmt::Result {
-    match mismatch {
-        Mismatch::Stopped { core, manual } => {
-            let core = Shown(core);
-            let manual = Shown(manual);
-            write!(f, "the core stops with {core}, the manual with {manual}")
-        }
-        Mismatch::StoppedEarly { core } => {
-            let core = Shown(core);
-            write!(f, "the core stops with {core}, the manual goes on")
-        }
-        Mismatch::StoppedWithout { effect } => {
-            let effect = Shown(effect);
-            write!(f, "the core stops without the request {effect}")
-        }
-        Mismatch::TooManyWants => write!(f, "more than four words of code are open"),
-        Mismatch::TooManyRequests => write!(f, "more than four requests are open"),
-        Mismatch::Idle { clocks } => write!(f, "nothing was done in {clocks} clocks"),
-        Mismatch::Late { effect } => {
-            let effect = Shown(effect);
-            write!(f, "the request {effect} is late")
-        }
-        Mismatch::NoCore => write!(f, "the core refuses its own words"),
-        _ => write!(f, "what the core shows has no meaning"),
-    }
+    #[error(transparent)]
+    Differs(#[from] Mismatch),
+    #[error("out of memory")]
+    NoMemory(#[from(alloc)] AllocError),
 }

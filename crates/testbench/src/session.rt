@@ -1,7 +1,9 @@
 // A core with the world around it, clock by clock.
+use crate::effects::effect_of;
 use crate::failure::Failure;
 use pins::ports::{Inputs, Outputs, Retired};
 use pins::{Clocked, Started};
+use reference::trace::Effect;
 use sim::world::World;
 use std::alloc::Global;
 
@@ -25,8 +27,12 @@ pub struct Clock {
 impl Clock {
     // The instructions that are done, oldest first.
     pub fn done(&self) -> &[Retired] {
-        let count = self.outputs.done.count.min(4) as usize;
-        &self.outputs.done.at[0..count]
+        self.outputs.done.retired()
+    }
+
+    // The write or the read of a device that is asked, if any.
+    pub fn effect(&self) -> Option<Effect> {
+        self.outputs.request.and_then(effect_of)
     }
 }
 
@@ -55,9 +61,7 @@ impl Session {
             Clocked::Done => {}
             Clocked::NoCore | Clocked::NoPorts => return Err(Failure::NoCore),
         }
-        let Some(outputs) = Outputs::read(&outs) else {
-            return Err(Failure::NoOutputs);
-        };
+        let outputs = Outputs::read(&outs).ok_or(Failure::NoOutputs)?;
         self.world.take(&outputs)?;
         Ok(Clock {
             number,

@@ -4,7 +4,7 @@ use isa::execute::Stop;
 use pins::ports::Retired;
 use std::fmt;
 
-#[derive(Clone, Copy)]
+#[derive(Clone, Copy, Default)]
 pub struct Summary {
     pub clocks: u64,
     pub instructions: u64,
@@ -15,12 +15,7 @@ pub struct Summary {
 impl Summary {
     // Of no clock.
     pub fn new() -> Summary {
-        Summary {
-            clocks: 0,
-            instructions: 0,
-            last: None,
-            stopped: None,
-        }
+        Summary::default()
     }
 
     // One clock more.
@@ -29,9 +24,7 @@ impl Summary {
         self.clocks = self.clocks.saturating_add(1);
         self.instructions = self.instructions.saturating_add(done.len() as u64);
         self.stopped = clock.outputs.stopped;
-        if let Some(newest) = done.last() {
-            self.last = Some(*newest);
-        }
+        self.last = done.last().copied().or(self.last);
     }
 
     // The clocks of an instruction, in hundredths, rounded.

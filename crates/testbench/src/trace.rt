@@ -1,7 +1,7 @@
 // Runs that are shown clock by clock.
-use crate::effects::effect_of;
 use crate::failure::Failure;
 use crate::lines::{Shown, Word, instruction};
+use crate::runner::run;
 use crate::session::{Clock, Session};
 use crate::summary::Summary;
 use reference::memory::Memory;
@@ -14,18 +14,12 @@ pub fn trace(
     from: u64,
     limit: u64,
 ) -> Result<Summary, Failure> {
-    let mut summary = Summary::new();
-    for number in 0..limit {
-        let clock = session.clock()?;
-        summary.add(&clock);
-        if number >= from {
-            show(rt, &session.world.code, &clock)?;
+    run(session, limit, |session, clock| {
+        if clock.number >= from {
+            show(rt, &session.world.code, clock)?;
         }
-        if summary.stopped.is_some() {
-            break;
-        }
-    }
-    Ok(summary)
+        Ok(())
+    })
 }
 
 // What is done and asked in a clock, and whether it stops.
@@ -46,10 +40,7 @@ pub fn show(rt: &HostRuntime, code: &Memory, clock: &Clock) -> Result<(), Failur
 // Writes and reads of devices.
 fn show_request(rt: &HostRuntime, clock: &Clock) -> Result<(), Failure> {
     let number = clock.number;
-    let Some(request) = clock.outputs.request else {
-        return Ok(());
-    };
-    match effect_of(request) {
+    match clock.effect() {
         Some(Effect::Write { address, value }) => {
             let value = Word(value);
             println!(rt; "clock {number:>6}              write {address:#010x} <- {value}")?;

@@ -1,57 +1,54 @@
 // The core and the manual side by side.
+use crate::checker::Checker;
 use crate::failure::Failure;
 use crate::mismatch::{CheckError, Mismatch};
+use crate::session::{Clock, Session};
 use crate::setup::Setup;
 use crate::summary::Summary;
-use sim::error::WorldError;
 use std::alloc::Global;
+use thiserror::Error;
 
-// They agree in all clocks that were run, or differ first in one.
-#[derive(Clone, Copy)]
-pub enum Verdict {
-    Agrees(Summary),
-    Differs { clock: u64, mismatch: Mismatch },
+// The first clock in which they differ, and how.
+#[derive(Clone, Copy, Debug, Error)]
+#[error("clock {clock}: {mismatch}")]
+pub struct Difference {
+    pub clock: u64,
+    pub mismatch: Mismatch,
 }
 
-// Runs both until they stop, or up to a number of clocks.
-pub fn versus(heap: Global, setup: &Setup, limit: u64) -> Result<Verdict, Failure> {
+// Runs both until they stop, or up to a number of clocks: what that came to, or the first difference.
+pub fn versus(
+    heap: Global,
+    setup: &Setup,
+    limit: u64,
+) -> Result<Result<Summary, Difference>, Failure> {
     let mut session = setup.session(heap)?;
     let mut checker = setup.checker(heap)?;
     let mut summary = Summary::new();
     for number in 0..limit {
-        let clock = match session.clock() {
-            Ok(clock) => clock,
-            Err(failure) => {
-                return Ok(Verdict::Differs {
-                    clock: number,
-                    mismatch: refusal(failure)?,
-                });
-            }
-        };
-        match checker.check(&session.world.told, &clock) {
-            Ok(()) => summary.add(&clock),
-            Err(CheckError::Differs(mismatch)) => {
-                return Ok(Verdict::Differs {
-                    clock: number,
-                    mismatch,
-                });
-            }
-            Err(CheckError::NoMemory) => return Err(Failure::NoMemory),
+        match clock(&mut session, &mut checker)? {
+            Ok(clock) => summary.add(&clock),
+            Err(mismatch) => return Ok(Err(Difference {
+                clock: number,
+                mismatch,
+            })),
         }
         if summary.stopped.is_some() {
             break;
         }
     }
-    Ok(Verdict::Agrees(summary))
+    Ok(Ok(summary))
 }
 
-// A clock that the core or the world refuses is a difference too.
-fn refusal(failure: Failure) -> Result<Mismatch, Failure> {
-    match failure {
-        Failure::NoCore => Ok(Mismatch::NoCore),
-        Failure::NoOutputs => Ok(Mismatch::NoOutputs),
-        Failure::World(WorldError::TooManyWants) => Ok(Mismatch::TooManyWants),
-        Failure::World(WorldError::TooManyRequests) => Ok(Mismatch::TooManyRequests),
-        other => Err(other),
+// One clock of both.
+fn clock(session: &mut Session, checker: &mut Checker) -> Result<Result<Clock, Mismatch>, Failure> {
+    let clock = match session.clock() {
+        Ok(clock) => clock,
+        Err(failure) => return Ok(Err(Mismatch::try_from(failure)?)),
+    };
+    match checker.check(&session.world.told, &clock) {
+        Ok(()) => Ok(Ok(clock)),
+        Err(CheckError::Differs(mismatch)) => Ok(Err(mismatch)),
+        Err(CheckError::NoMemory(e)) => Err(e.into()),
     }
 }

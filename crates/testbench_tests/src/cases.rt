@@ -1,7 +1,7 @@
 // One history for each thing that a core must not do.
 use crate::history::{History, IDLE, done, read, stop, want, write};
 use isa::execute::Stop;
-use std::alloc::Global;
+use std::alloc::AllocError;
 use testbench::failure::Failure;
 
 const ASKING: &str = "
@@ -19,9 +19,11 @@ here:   sw      zero, 12(zero)
 
 const DEVICE: u32 = 0x8000_0000;
 
-fn show(rt: &HostRuntime, name: &str, text: &str, history: &History) -> Result<(), Failure> {
-    let verdict = history.judge(rt.alloc(), text)?;
-    println!(rt; "{name}: {verdict}")?;
+fn show(rt: &HostRuntime, name: &str, history: History) -> Result<(), Failure> {
+    match history.judge(rt.alloc())? {
+        Ok(()) => println!(rt; "{name}: as promised")?,
+        Err(difference) => println!(rt; "{name}: {difference}")?,
+    }
     Ok(())
 }
 
@@ -35,123 +37,85 @@ pub fn show_all(rt: &HostRuntime) -> Result<(), Failure> {
     show_time(rt)
 }
 
+fn asking(rt: &HostRuntime) -> History<'static> {
+    History::new(rt.alloc(), ASKING)
+}
+
 // The first two instructions, as they should be.
-fn begun(heap: Global) -> Result<History, Failure> {
-    let mut history = History::new(heap);
-    history.add_all(&[IDLE, done(0, 7, DEVICE), done(4, 0, 0), write(8, DEVICE)])?;
-    Ok(history)
+fn begun(rt: &HostRuntime) -> Result<History<'static>, AllocError> {
+    asking(rt).then(&[IDLE, done(0, 7, DEVICE), done(4, 0, 0), write(8, DEVICE)])
 }
 
 // All four.
-fn finished(heap: Global) -> Result<History, Failure> {
-    let mut history = begun(heap)?;
-    history.add_all(&[read(DEVICE + 4), IDLE])?;
-    history.answer();
-    history.add(done(8, 6, 99))?;
-    Ok(history)
+fn finished(rt: &HostRuntime) -> Result<History<'static>, AllocError> {
+    let asked = begun(rt)?.then(&[read(DEVICE + 4), IDLE])?;
+    asked.answered().then(&[done(8, 6, 99)])
 }
 
 fn show_right(rt: &HostRuntime) -> Result<(), Failure> {
-    let mut history = finished(rt.alloc())?;
-    history.add(stop(Stop::EnvCall))?;
-    show(rt, "right", ASKING, &history)
+    let right = finished(rt)?.then(&[stop(Stop::EnvCall)])?;
+    show(rt, "right", right)
 }
 
 fn show_done(rt: &HostRuntime) -> Result<(), Failure> {
-    let heap = rt.alloc();
-    let mut wrong = History::new(heap);
-    wrong.add(done(0, 7, 0))?;
-    show(rt, "a wrong value", ASKING, &wrong)?;
-    let mut other = History::new(heap);
-    other.add(done(0, 8, DEVICE))?;
-    show(rt, "another register", ASKING, &other)?;
-    let mut left_out = History::new(heap);
-    left_out.add(done(4, 0, 0))?;
-    show(rt, "an instruction left out", ASKING, &left_out)?;
-    let mut unanswered = begun(heap)?;
-    unanswered.add_all(&[read(DEVICE + 4), done(8, 6, 99)])?;
-    show(rt, "no answer", ASKING, &unanswered)?;
-    let mut further = finished(heap)?;
-    further.add(done(12, 0, 0))?;
-    show(rt, "past the end", ASKING, &further)
+    let wrong = asking(rt).then(&[done(0, 7, 0)])?;
+    show(rt, "a wrong value", wrong)?;
+    let other = asking(rt).then(&[done(0, 8, DEVICE)])?;
+    show(rt, "another register", other)?;
+    let left_out = asking(rt).then(&[done(4, 0, 0)])?;
+    show(rt, "an instruction left out", left_out)?;
+    let unanswered = begun(rt)?.then(&[read(DEVICE + 4), done(8, 6, 99)])?;
+    show(rt, "no answer", unanswered)?;
+    let further = finished(rt)?.then(&[done(12, 0, 0)])?;
+    show(rt, "past the end", further)
 }
 
 fn show_requests(rt: &HostRuntime) -> Result<(), Failure> {
-    let heap = rt.alloc();
-    let mut other = History::new(heap);
-    other.add_all(&[done(0, 7, DEVICE), done(4, 0, 0), write(8, 1)])?;
-    show(rt, "another write", ASKING, &other)?;
-    let mut twice = begun(heap)?;
-    twice.add(write(8, DEVICE))?;
-    show(rt, "a write twice", ASKING, &twice)?;
-    let mut asked_twice = begun(heap)?;
-    asked_twice.add_all(&[read(DEVICE + 4), read(DEVICE + 4)])?;
-    show(rt, "a device asked twice", ASKING, &asked_twice)
+    let other = asking(rt).then(&[done(0, 7, DEVICE), done(4, 0, 0), write(8, 1)])?;
+    show(rt, "another write", other)?;
+    let twice = begun(rt)?.then(&[write(8, DEVICE)])?;
+    show(rt, "a write twice", twice)?;
+    let asked_twice = begun(rt)?.then(&[read(DEVICE + 4); 2])?;
+    show(rt, "a device asked twice", asked_twice)
 }
 
 fn show_order(rt: &HostRuntime) -> Result<(), Failure> {
-    let heap = rt.alloc();
-    let mut early = History::new(heap);
-    early.add(write(8, DEVICE))?;
-    show(rt, "a write too early", ASKING, &early)?;
-    let mut next = History::new(heap);
-    next.add_all(&[done(0, 7, DEVICE), write(8, DEVICE), done(4, 0, 0)])?;
-    show(rt, "the next instruction's write", ASKING, &next)?;
-    let mut overtaking = History::new(heap);
-    overtaking.add_all(&[done(0, 7, DEVICE), done(4, 0, 0), read(DEVICE + 4)])?;
-    show(rt, "a device asked before a write", ASKING, &overtaking)?;
-    let mut behind = History::new(heap);
-    behind.add(done(0, 0, 0))?;
+    let early = asking(rt).then(&[write(8, DEVICE)])?;
+    show(rt, "a write too early", early)?;
+    let next = asking(rt).then(&[done(0, 7, DEVICE), write(8, DEVICE), done(4, 0, 0)])?;
+    show(rt, "the next instruction's write", next)?;
+    let overtaking = asking(rt).then(&[done(0, 7, DEVICE), done(4, 0, 0), read(DEVICE + 4)])?;
+    show(rt, "a device asked before a write", overtaking)?;
+    let mut behind = History::new(rt.alloc(), STORING).then(&[done(0, 0, 0)])?;
     for _ in 0..8 {
-        behind.add_all(&[done(4, 0, 0), done(8, 0, 0)])?;
+        behind = behind.then(&[done(4, 0, 0), done(8, 0, 0)])?;
     }
-    show(rt, "nine writes behind", STORING, &behind)
+    show(rt, "nine writes behind", behind)
 }
 
 fn show_stops(rt: &HostRuntime) -> Result<(), Failure> {
-    let heap = rt.alloc();
-    let mut otherwise = finished(heap)?;
-    otherwise.add(stop(Stop::Illegal))?;
-    show(rt, "stopped otherwise", ASKING, &otherwise)?;
-    let mut early = begun(heap)?;
-    early.add(stop(Stop::EnvCall))?;
-    show(rt, "stopped too early", ASKING, &early)?;
-    let mut without = History::new(heap);
-    without.add_all(&[done(0, 0, 0), stop(Stop::EnvCall)])?;
-    show(
-        rt,
-        "stopped without a write",
-        "sw zero, 8(zero)\necall\n",
-        &without,
-    )
+    let otherwise = finished(rt)?.then(&[stop(Stop::Illegal)])?;
+    show(rt, "stopped otherwise", otherwise)?;
+    let early = begun(rt)?.then(&[stop(Stop::EnvCall)])?;
+    show(rt, "stopped too early", early)?;
+    let storing = History::new(rt.alloc(), "sw zero, 8(zero)\necall\n");
+    let without = storing.then(&[done(0, 0, 0), stop(Stop::EnvCall)])?;
+    show(rt, "stopped without a write", without)
 }
 
 fn show_open(rt: &HostRuntime) -> Result<(), Failure> {
-    let heap = rt.alloc();
-    let mut wants = History::new(heap);
-    wants.add_many(want(0), 5)?;
-    show(rt, "five words of code open", ASKING, &wants)?;
-    let mut reads = History::new(heap);
-    reads.add_many(read(0), 5)?;
-    show(rt, "five requests open", ASKING, &reads)
+    let wants = asking(rt).then(&[want(0); 5])?;
+    show(rt, "five words of code open", wants)?;
+    let reads = asking(rt).then(&[read(0); 5])?;
+    show(rt, "five requests open", reads)
 }
 
 fn show_time(rt: &HostRuntime) -> Result<(), Failure> {
-    let heap = rt.alloc();
-    let mut patient = History::new(heap);
-    patient.add_many(IDLE, 63)?;
-    patient.add(done(0, 7, DEVICE))?;
-    show(rt, "nothing done in 63 clocks", ASKING, &patient)?;
-    let mut idle = History::new(heap);
-    idle.add_many(IDLE, 64)?;
-    show(rt, "nothing done in 64 clocks", ASKING, &idle)?;
-    let mut late = History::new(heap);
-    late.add(done(0, 0, 0))?;
-    late.add_many(done(4, 0, 0), 70)?;
-    show(
-        rt,
-        "a write that does not come",
-        "sw zero, 8(zero)\nhere: j here\n",
-        &late,
-    )
+    let patient = asking(rt).then(&[IDLE; 63])?.then(&[done(0, 7, DEVICE)])?;
+    show(rt, "nothing done in 63 clocks", patient)?;
+    let idle = asking(rt).then(&[IDLE; 64])?;
+    show(rt, "nothing done in 64 clocks", idle)?;
+    let storing = History::new(rt.alloc(), "sw zero, 8(zero)\nhere: j here\n");
+    let late = storing.then(&[done(0, 0, 0)])?.then(&[done(4, 0, 0); 70])?;
+    show(rt, "a write that does not come", late)
 }

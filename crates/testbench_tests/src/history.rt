@@ -4,15 +4,17 @@ use isa::execute::Stop;
 use pins::ports::{Done, Inputs, Outputs, Request, Retired};
 use sim::delay::Delay;
 use sim::devices::Rest;
-use std::alloc::Global;
+use std::alloc::{AllocError, Global};
 use testbench::failure::Failure;
 use testbench::mismatch::CheckError;
 use testbench::session::Clock;
 use testbench::setup::Setup;
+use testbench::versus::Difference;
 
-// `answered` is the clock from which on a device has answered 99.
+// The clocks of a program. `answered` is the one from which on a device has answered 99.
 #[derive(Drop)]
-pub struct History {
+pub struct History<'a> {
+    text: &'a str,
     clocks: Vec<Outputs>,
     answered: Option<usize>,
 }
@@ -66,39 +68,31 @@ pub fn stop(how: Stop) -> Outputs {
     }
 }
 
-impl History {
-    pub fn new(heap: Global) -> History {
+impl<'a> History<'a> {
+    // Before the first clock.
+    pub fn new(heap: Global, text: &'a str) -> History<'a> {
         History {
+            text,
             clocks: Vec::new(heap),
             answered: None,
         }
     }
 
-    pub fn add(&mut self, outputs: Outputs) -> Result<(), Failure> {
-        self.clocks.push(outputs)?;
-        Ok(())
-    }
-
-    pub fn add_all(&mut self, outputs: &[Outputs]) -> Result<(), Failure> {
+    // With these clocks more.
+    pub fn then(mut self, outputs: &[Outputs]) -> Result<History<'a>, AllocError> {
         self.clocks.extend_from_slice(outputs)?;
-        Ok(())
-    }
-
-    pub fn add_many(&mut self, outputs: Outputs, count: u32) -> Result<(), Failure> {
-        for _ in 0..count {
-            self.clocks.push(outputs)?;
-        }
-        Ok(())
+        Ok(self)
     }
 
     // The device answers in the clock that comes next.
-    pub fn answer(&mut self) {
+    pub fn answered(mut self) -> History<'a> {
         self.answered = Some(self.clocks.len());
+        self
     }
 
     // What the checker says, of a program whose answers come in the next clock.
-    pub fn judge(&self, heap: Global, text: &str) -> Result<String, Failure> {
-        let Ok(program) = assemble(heap, text) else {
+    pub fn judge(&self, heap: Global) -> Result<Result<(), Difference>, Failure> {
+        let Ok(program) = assemble(heap, self.text) else {
             return Err(Failure::Input(String::from_str(heap, "no program")?));
         };
         let setup = Setup {
@@ -109,31 +103,37 @@ impl History {
         };
         let mut checker = setup.checker(heap)?;
         for (i, outputs) in self.clocks.iter().enumerate() {
-            let clock = self.clock(i, *outputs);
-            let told: &[u32] = if self.answered.unwrap_or(usize::MAX) <= i {
-                &[99]
-            } else {
-                &[]
-            };
-            match checker.check(told, &clock) {
+            let clock = clock(i as u64, *outputs);
+            match checker.check(self.told(i), &clock) {
                 Ok(()) => {}
-                Err(CheckError::Differs(mismatch)) => return Ok(format!(in heap;
-                    "clock {i}: {mismatch}"
-                )?),
-                Err(CheckError::NoMemory) => return Err(Failure::NoMemory),
+                Err(CheckError::Differs(mismatch)) => return Ok(Err(Difference {
+                    clock: clock.number,
+                    mismatch,
+                })),
+                Err(CheckError::NoMemory(e)) => return Err(e.into()),
             }
         }
-        Ok(String::from_str(heap, "as promised")?)
+        Ok(Ok(()))
     }
 
-    fn clock(&self, number: usize, outputs: Outputs) -> Clock {
-        Clock {
-            number: number as u64,
-            inputs: Inputs {
-                code: None,
-                answer: None,
-            },
-            outputs,
+    // What devices have answered by a clock.
+    fn told(&self, clock: usize) -> &[u32] {
+        if self.answered.is_some_and(|first| first <= clock) {
+            &[99]
+        } else {
+            &[]
         }
+    }
+}
+
+// A clock in which nothing is given.
+fn clock(number: u64, outputs: Outputs) -> Clock {
+    Clock {
+        number,
+        inputs: Inputs {
+            code: None,
+            answer: None,
+        },
+        outputs,
     }
 }

@@ -2,21 +2,15 @@
 use isa::execute::{Outcome, perform};
 use isa::reg::Reg;
 use isa::regs::Regs;
-use pins::ports::Retired;
+use pins::ports::{Request, Retired};
 use std::fmt;
 
-#[derive(Clone, Copy)]
-pub enum Access {
-    Load { address: u32 },
-    Store { address: u32, value: u32 },
-}
-
-// An instruction that is done.
+// An instruction that is done, and what it reads or writes of memory and devices.
 #[derive(Clone, Copy)]
 pub struct Commit {
     pub retired: Retired,
     pub word: u32,
-    pub access: Option<Access>,
+    pub access: Option<Request>,
 }
 
 // `core   0: 3 0x00000018 (0x0043a303) x6  0x00000063 mem 0x80000004`
@@ -29,8 +23,8 @@ impl fmt::Display for Commit {
             write!(f, " x{reg:<2} {value:#010x}")?;
         }
         match self.access {
-            Some(Access::Load { address }) => write!(f, " mem {address:#010x}"),
-            Some(Access::Store { address, value }) => {
+            Some(Request::Read { address }) => write!(f, " mem {address:#010x}"),
+            Some(Request::Write { address, value }) => {
                 write!(f, " mem {address:#010x} {value:#010x}")
             }
             None => Ok(()),
@@ -54,12 +48,8 @@ impl CommitLog {
     pub fn commit(&mut self, retired: Retired, word: u32) -> Commit {
         let access = self.access(retired.pc, word);
         if let 1..=31 = retired.reg {
-            self.regs.write(
-                Reg {
-                    number: retired.reg as u8,
-                },
-                retired.value,
-            );
+            let number = retired.reg as u8;
+            self.regs.write(Reg { number }, retired.value);
         }
         Commit {
             retired,
@@ -69,10 +59,10 @@ impl CommitLog {
     }
 
     // Where an instruction loads or stores, at the registers that it finds.
-    fn access(&self, pc: u32, word: u32) -> Option<Access> {
+    fn access(&self, pc: u32, word: u32) -> Option<Request> {
         match perform(&self.regs, pc, word) {
-            Outcome::Load { address, .. } => Some(Access::Load { address }),
-            Outcome::Store { address, value } => Some(Access::Store { address, value }),
+            Outcome::Load { address, .. } => Some(Request::Read { address }),
+            Outcome::Store { address, value } => Some(Request::Write { address, value }),
             Outcome::Write { .. } | Outcome::Jump { .. } | Outcome::Halt(_) => None,
         }
     }

@@ -1,12 +1,13 @@
 // What the wires carry in one clock.
+use crate::wires::Signal;
 use first::state::{Core, Load};
 use pins::ports::{Done, Inputs, Outputs, Request, Retired};
+use std::array;
 
-// In the order of the wires, and none where nothing stands.
 #[derive(Clone, Copy)]
 pub struct Sample {
-    pub ports: [Option<u32>; 25],
-    pub inside: [Option<u32>; 11],
+    pub ports: [Signal; 25],
+    pub inside: [Signal; 11],
 }
 
 impl Sample {
@@ -17,45 +18,80 @@ impl Sample {
             inside: inside(core),
         }
     }
+
+    // A core at its start, with nothing given or shown.
+    pub fn idle() -> Sample {
+        let inputs = Inputs {
+            code: None,
+            answer: None,
+        };
+        let outputs = Outputs {
+            want: None,
+            request: None,
+            stopped: None,
+            done: Done::none(),
+        };
+        Sample::new(&Core::start(0), &inputs, &outputs)
+    }
 }
 
-fn ports(inputs: &Inputs, outputs: &Outputs) -> [Option<u32>; 25] {
+// What is given, then what is shown.
+fn ports(inputs: &Inputs, outputs: &Outputs) -> [Signal; 25] {
     let [read, write, address, value] = request(outputs.request);
-    let [a, b, c, d] = traces(&outputs.done);
-    let how = match outputs.stopped {
-        Some(stop) => Some(stop.code()),
-        None => None,
-    };
+    let how = outputs.stopped.map(u32::from);
+    let [a, b, c, d] = done(&outputs.done);
     [
-        flag(inputs.code.is_some()),
-        inputs.code,
-        flag(inputs.answer.is_some()),
-        inputs.answer,
-        flag(outputs.want.is_some()),
-        outputs.want,
+        Signal::flag("code_given", inputs.code.is_some()),
+        Signal::word("code_word", inputs.code),
+        Signal::flag("answer_given", inputs.answer.is_some()),
+        Signal::word("answer_word", inputs.answer),
+        Signal::flag("code_wanted", outputs.want.is_some()),
+        Signal::word("code_address", outputs.want),
         read,
         write,
         address,
         value,
-        flag(how.is_some()),
-        how,
-        Some(outputs.done.count),
-        a[0],
-        a[1],
-        a[2],
-        b[0],
-        b[1],
-        b[2],
-        c[0],
-        c[1],
-        c[2],
-        d[0],
-        d[1],
-        d[2],
+        Signal::flag("stopped", how.is_some()),
+        Signal::bits("stopped_how", 2, how),
+        Signal::bits("done_count", 3, Some(outputs.done.count)),
+        Signal::word("done0_pc", a.map(|done| done.pc)),
+        Signal::bits("done0_reg", 5, a.map(|done| done.reg)),
+        Signal::word("done0_value", a.map(|done| done.value)),
+        Signal::word("done1_pc", b.map(|done| done.pc)),
+        Signal::bits("done1_reg", 5, b.map(|done| done.reg)),
+        Signal::word("done1_value", b.map(|done| done.value)),
+        Signal::word("done2_pc", c.map(|done| done.pc)),
+        Signal::bits("done2_reg", 5, c.map(|done| done.reg)),
+        Signal::word("done2_value", c.map(|done| done.value)),
+        Signal::word("done3_pc", d.map(|done| done.pc)),
+        Signal::bits("done3_reg", 5, d.map(|done| done.reg)),
+        Signal::word("done3_value", d.map(|done| done.value)),
     ]
 }
 
-fn inside(core: &Core) -> [Option<u32>; 11] {
+// Whether it reads, whether it writes, where and what.
+fn request(request: Option<Request>) -> [Signal; 4] {
+    let (read, write, address, value) = match request {
+        None => (false, false, None, None),
+        Some(Request::Read { address }) => (true, false, Some(address), None),
+        Some(Request::Write { address, value }) => (false, true, Some(address), Some(value)),
+    };
+    [
+        Signal::flag("data_read", read),
+        Signal::flag("data_write", write),
+        Signal::word("data_address", address),
+        Signal::word("data_value", value),
+    ]
+}
+
+// The instructions that are done, and none in the places after them.
+fn done(done: &Done) -> [Option<Retired>; 4] {
+    let done = done.retired();
+    array::from_fn(|place| done.get(place).copied())
+}
+
+// The instruction at work and its word, its load, and how much is held, open and to come.
+fn inside(core: &Core) -> [Signal; 11] {
     let word = core.fetch.head();
     let (waiting, answered, address) = match core.lsu.load {
         Load::Idle => (false, false, None),
@@ -63,52 +99,16 @@ fn inside(core: &Core) -> [Option<u32>; 11] {
         Load::Answered { address, .. } => (false, true, Some(address)),
     };
     [
-        Some(core.pc),
-        flag(word.is_some()),
-        word,
-        flag(waiting),
-        flag(answered),
-        address,
-        Some(core.lsu.stores.count),
-        Some(core.lsu.requests.count),
-        Some(core.fetch.count),
-        Some(core.fetch.coming),
-        Some(core.fetch.stale),
+        Signal::word("pc", Some(core.pc)),
+        Signal::flag("word_held", word.is_some()),
+        Signal::word("word", word),
+        Signal::flag("load_waiting", waiting),
+        Signal::flag("load_answered", answered),
+        Signal::word("load_address", address),
+        Signal::bits("stores_held", 4, Some(core.lsu.stores.count)),
+        Signal::bits("requests_open", 3, Some(core.lsu.requests.count)),
+        Signal::bits("words_held", 2, Some(core.fetch.words.count)),
+        Signal::bits("words_coming", 3, Some(core.fetch.coming)),
+        Signal::bits("words_stale", 3, Some(core.fetch.stale)),
     ]
-}
-
-fn flag(up: bool) -> Option<u32> {
-    Some(u32::from(up))
-}
-
-// Whether it reads, whether it writes, where and what.
-fn request(request: Option<Request>) -> [Option<u32>; 4] {
-    match request {
-        None => [flag(false), flag(false), None, None],
-        Some(Request::Read { address }) => [flag(true), flag(false), Some(address), None],
-        Some(Request::Write { address, value }) => [
-            flag(false),
-            flag(true),
-            Some(address),
-            Some(value),
-        ],
-    }
-}
-
-fn traces(done: &Done) -> [[Option<u32>; 3]; 4] {
-    let [a, b, c, d] = done.at;
-    [
-        trace(done.count > 0, a),
-        trace(done.count > 1, b),
-        trace(done.count > 2, c),
-        trace(done.count > 3, d),
-    ]
-}
-
-fn trace(done: bool, retired: Retired) -> [Option<u32>; 3] {
-    if done {
-        [Some(retired.pc), Some(retired.reg), Some(retired.value)]
-    } else {
-        [None; 3]
-    }
 }

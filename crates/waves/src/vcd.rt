@@ -1,6 +1,6 @@
 // A value change dump: a header, then for each clock the wires that change.
 use crate::sample::Sample;
-use crate::wires::{INSIDE, PORTS, Wire};
+use crate::wires::{Signal, Wire};
 use std::fmt;
 
 // The nanoseconds of a clock.
@@ -18,19 +18,20 @@ pub struct Header;
 
 impl fmt::Display for Header {
     fn fmt<W: fmt::Write>(&self, f: &mut fmt::Formatter<W>) -> fmt::Result {
+        let Sample { ports, inside } = Sample::idle();
         f.write_str("$version run $end\n$timescale 1 ns $end\n$scope module core $end\n")?;
-        declare(f, FIRST_PORT, &PORTS)?;
+        declare(f, FIRST_PORT, &ports)?;
         f.write_str("$scope module inside $end\n")?;
-        declare(f, FIRST_INSIDE, &INSIDE)?;
+        declare(f, FIRST_INSIDE, &inside)?;
         f.write_str("$upscope $end\n$upscope $end\n$enddefinitions $end\n")
     }
 }
 
-fn declare<W: fmt::Write>(f: &mut fmt::Formatter<W>, first: u8, wires: &[Wire]) -> fmt::Result {
-    for (id, wire) in (first..=LAST).zip(wires.iter()) {
+fn declare<W: fmt::Write>(f: &mut fmt::Formatter<W>, first: u8, signals: &[Signal]) -> fmt::Result {
+    for (id, signal) in (first..=LAST).zip(signals) {
         let id = char::from(id);
-        let width = wire.width();
-        let name = wire.name();
+        let width = signal.wire.width();
+        let name = signal.wire.name();
         writeln!(f, "$var wire {width} {id} {name} $end")?;
     }
     Ok(())
@@ -47,59 +48,42 @@ pub struct Changes {
 impl fmt::Display for Changes {
     fn fmt<W: fmt::Write>(&self, f: &mut fmt::Formatter<W>) -> fmt::Result {
         let time = Time(self.clock);
+        let Sample { ports, inside } = &self.now;
         match &self.before {
             None => {
                 writeln!(f, "{time}\n$dumpvars")?;
-                write_all(f, FIRST_PORT, &PORTS, &self.now.ports)?;
-                write_all(f, FIRST_INSIDE, &INSIDE, &self.now.inside)?;
+                write_changed(f, FIRST_PORT, &[], ports)?;
+                write_changed(f, FIRST_INSIDE, &[], inside)?;
                 writeln!(f, "$end")
             }
             Some(before) => {
                 writeln!(f, "{time}")?;
-                write_changed(f, FIRST_PORT, &PORTS, &before.ports, &self.now.ports)?;
-                write_changed(f, FIRST_INSIDE, &INSIDE, &before.inside, &self.now.inside)
+                write_changed(f, FIRST_PORT, &before.ports, ports)?;
+                write_changed(f, FIRST_INSIDE, &before.inside, inside)
             }
         }
     }
 }
 
-fn write_all<W: fmt::Write>(
-    f: &mut fmt::Formatter<W>,
-    first: u8,
-    wires: &[Wire],
-    now: &[Option<u32>],
-) -> fmt::Result {
-    for ((id, wire), value) in (first..=LAST).zip(wires.iter()).zip(now.iter()) {
-        write_value(f, id, *wire, *value)?;
-    }
-    Ok(())
-}
-
+// The signals that are not as before; all where there were none.
 fn write_changed<W: fmt::Write>(
     f: &mut fmt::Formatter<W>,
     first: u8,
-    wires: &[Wire],
-    before: &[Option<u32>],
-    now: &[Option<u32>],
+    before: &[Signal],
+    now: &[Signal],
 ) -> fmt::Result {
-    let ids = (first..=LAST).zip(wires.iter());
-    for ((id, wire), (old, new)) in ids.zip(before.iter().zip(now.iter())) {
-        if old != new {
-            write_value(f, id, *wire, *new)?;
+    for (place, (id, signal)) in (first..=LAST).zip(now).enumerate() {
+        if before.get(place) != Some(signal) {
+            write_signal(f, id, *signal)?;
         }
     }
     Ok(())
 }
 
 // `1!`, `b101 #`, and `x!` or `bx #` where nothing stands.
-fn write_value<W: fmt::Write>(
-    f: &mut fmt::Formatter<W>,
-    id: u8,
-    wire: Wire,
-    value: Option<u32>,
-) -> fmt::Result {
+fn write_signal<W: fmt::Write>(f: &mut fmt::Formatter<W>, id: u8, signal: Signal) -> fmt::Result {
     let id = char::from(id);
-    match (wire, value) {
+    match (signal.wire, signal.value) {
         (Wire::Flag(_), Some(bit)) => writeln!(f, "{bit}{id}"),
         (Wire::Flag(_), None) => writeln!(f, "x{id}"),
         (_, Some(word)) => writeln!(f, "b{word:b} {id}"),
@@ -131,8 +115,7 @@ impl Dump {
     }
 
     pub fn clock(&mut self, clock: u64, now: Sample) -> Changes {
-        let before = self.last;
-        self.last = Some(now);
+        let before = self.last.replace(now);
         Changes { clock, before, now }
     }
 }

@@ -1,5 +1,5 @@
 // The wires of a waveform: a flag, a word, or a number of some bits.
-#[derive(Clone, Copy)]
+#[derive(Clone, Copy, PartialEq, Eq)]
 pub enum Wire {
     Flag(&'static str),
     Word(&'static str),
@@ -9,8 +9,7 @@ pub enum Wire {
 impl Wire {
     pub fn name(self) -> &'static str {
         match self {
-            Wire::Flag(name) | Wire::Word(name) => name,
-            Wire::Bits(name, _) => name,
+            Wire::Flag(name) | Wire::Word(name) | Wire::Bits(name, _) => name,
         }
     }
 
@@ -23,46 +22,32 @@ impl Wire {
     }
 }
 
-// The ports: what is given, then what is shown.
-pub const PORTS: [Wire; 25] = [
-    Wire::Flag("code_given"),
-    Wire::Word("code_word"),
-    Wire::Flag("answer_given"),
-    Wire::Word("answer_word"),
-    Wire::Flag("code_wanted"),
-    Wire::Word("code_address"),
-    Wire::Flag("data_read"),
-    Wire::Flag("data_write"),
-    Wire::Word("data_address"),
-    Wire::Word("data_value"),
-    Wire::Flag("stopped"),
-    Wire::Bits("stopped_how", 2),
-    Wire::Bits("done_count", 3),
-    Wire::Word("done0_pc"),
-    Wire::Bits("done0_reg", 5),
-    Wire::Word("done0_value"),
-    Wire::Word("done1_pc"),
-    Wire::Bits("done1_reg", 5),
-    Wire::Word("done1_value"),
-    Wire::Word("done2_pc"),
-    Wire::Bits("done2_reg", 5),
-    Wire::Word("done2_value"),
-    Wire::Word("done3_pc"),
-    Wire::Bits("done3_reg", 5),
-    Wire::Word("done3_value"),
-];
+// A wire and what it carries, or none where nothing stands.
+#[derive(Clone, Copy, PartialEq, Eq)]
+pub struct Signal {
+    pub wire: Wire,
+    pub value: Option<u32>,
+}
 
-// The instruction at work and its word, its load, and how much is held, open and to come.
-pub const INSIDE: [Wire; 11] = [
-    Wire::Word("pc"),
-    Wire::Flag("word_held"),
-    Wire::Word("word"),
-    Wire::Flag("load_waiting"),
-    Wire::Flag("load_answered"),
-    Wire::Word("load_address"),
-    Wire::Bits("stores_held", 4),
-    Wire::Bits("requests_open", 3),
-    Wire::Bits("words_held", 2),
-    Wire::Bits("words_coming", 3),
-    Wire::Bits("words_stale", 3),
-];
+impl Signal {
+    pub fn flag(name: &'static str, up: bool) -> Signal {
+        Signal {
+            wire: Wire::Flag(name),
+            value: Some(u32::from(up)),
+        }
+    }
+
+    pub fn word(name: &'static str, value: Option<u32>) -> Signal {
+        Signal {
+            wire: Wire::Word(name),
+            value,
+        }
+    }
+
+    pub fn bits(name: &'static str, width: u32, value: Option<u32>) -> Signal {
+        Signal {
+            wire: Wire::Bits(name, width),
+            value,
+        }
+    }
+}

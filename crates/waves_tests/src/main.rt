@@ -8,13 +8,14 @@ use sim::devices::Rest;
 use std::process::ExitCode;
 use testbench::failure::{Failure, exit_code};
 use testbench::files::{Format, read_program};
+use testbench::runner;
 use testbench::session::Session;
 use testbench::setup::Setup;
 use waves::commit::CommitLog;
 use waves::sample::Sample;
 use waves::vcd::{Dump, Header};
 
-const CLOCKS: u32 = 100;
+const CLOCKS: u64 = 100;
 
 fn session(rt: &HostRuntime, program: &Program) -> Result<Session, Failure> {
     let setup = Setup {
@@ -26,24 +27,25 @@ fn session(rt: &HostRuntime, program: &Program) -> Result<Session, Failure> {
     setup.session(rt.alloc())
 }
 
+fn core(session: &Session) -> Result<Core, Failure> {
+    Core::load(session.core()).ok_or(Failure::NoCore)
+}
+
 // The waveforms, until it stops.
 fn show_waves(rt: &HostRuntime, program: &Program) -> Result<(), Failure> {
     let mut session = session(rt, program)?;
     let mut dump = Dump::new();
     let header = Header;
     print!(rt; "{header}")?;
-    for _ in 0..CLOCKS {
-        let Some(core) = Core::load(session.core()) else {
-            return Err(Failure::NoCore);
-        };
-        let clock = session.clock()?;
-        let sample = Sample::new(&core, &clock.inputs, &clock.outputs);
+    // As the next clock begins.
+    let mut before = core(&session)?;
+    runner::run(&mut session, CLOCKS, |session, clock| {
+        let sample = Sample::new(&before, &clock.inputs, &clock.outputs);
         let changes = dump.clock(clock.number, sample);
         print!(rt; "{changes}")?;
-        if clock.outputs.stopped.is_some() {
-            break;
-        }
-    }
+        before = core(session)?;
+        Ok(())
+    })?;
     Ok(())
 }
 
@@ -51,16 +53,13 @@ fn show_waves(rt: &HostRuntime, program: &Program) -> Result<(), Failure> {
 fn show_log(rt: &HostRuntime, program: &Program) -> Result<(), Failure> {
     let mut session = session(rt, program)?;
     let mut log = CommitLog::new();
-    for _ in 0..CLOCKS {
-        let clock = session.clock()?;
+    runner::run(&mut session, CLOCKS, |session, clock| {
         for retired in clock.done() {
             let commit = log.commit(*retired, session.world.code.get(retired.pc / 4));
             println!(rt; "{commit}")?;
         }
-        if clock.outputs.stopped.is_some() {
-            break;
-        }
-    }
+        Ok(())
+    })?;
     Ok(())
 }
 

@@ -5,7 +5,6 @@ use asm::program::Program;
 use isa::execute::Stop;
 use pins::ports::Retired;
 use reference::trace::Effect;
-use testbench::effects::same_effect;
 
 const LOOP_WORDS: [u32; 10] = [
     4194963, 5571891, 4294083219, 4261584099, 2147484599, 10723363, 4432643, 6300707, 8398211, 115,
@@ -82,72 +81,30 @@ impl Case {
             }
             Case::Nought => stops_at_once(record, Stop::Illegal),
             Case::Misaligned | Case::OddStart => stops_at_once(record, Stop::Misaligned),
-            Case::Divide => did(record, 1, QUOTIENT) && did(record, 2, REMAINDER),
-            Case::EitherWay => same_effects(&record.effects, &EITHER_WAY_EFFECTS),
-            Case::StoreLoad => record.effects.len() == 101 && last_effect(record, TOTAL),
+            Case::Divide => {
+                record.done.get(1) == Some(&QUOTIENT) && record.done.get(2) == Some(&REMAINDER)
+            }
+            Case::EitherWay => record.effects.as_slice() == EITHER_WAY_EFFECTS.as_slice(),
+            Case::StoreLoad => {
+                record.effects.len() == 101 && record.effects.last() == Some(&TOTAL)
+            }
             Case::Sums => stops(record, Stop::EnvCall) && record.done.len() == 200,
         }
     }
 }
 
 fn loop_holds(program: &Program, record: &Record) -> bool {
-    same_words(program, &LOOP_WORDS)
-        && same_effects(&record.effects, &LOOP_EFFECTS)
+    let words = program.code.iter().map(|placed| placed.word);
+    words.eq(LOOP_WORDS)
+        && record.effects.as_slice() == LOOP_EFFECTS.as_slice()
         && stops(record, Stop::EnvCall)
-        && last_done(record, LOOP_LAST)
+        && record.done.last() == Some(&LOOP_LAST)
 }
 
 fn stops(record: &Record, how: Stop) -> bool {
-    match record.summary.stopped {
-        Some(stop) => stop.code() == how.code(),
-        None => false,
-    }
+    record.summary.stopped == Some(how)
 }
 
 fn stops_at_once(record: &Record, how: Stop) -> bool {
     stops(record, how) && record.done.is_empty() && record.effects.is_empty()
-}
-
-fn same_retired(a: Retired, b: Retired) -> bool {
-    a.pc == b.pc && a.reg == b.reg && a.value == b.value
-}
-
-// Whether it is the instruction done at a place.
-fn did(record: &Record, place: usize, retired: Retired) -> bool {
-    match record.done.get(place) {
-        Some(done) => same_retired(*done, retired),
-        None => false,
-    }
-}
-
-fn last_done(record: &Record, retired: Retired) -> bool {
-    match record.done.last() {
-        Some(done) => same_retired(*done, retired),
-        None => false,
-    }
-}
-
-fn last_effect(record: &Record, effect: Effect) -> bool {
-    match record.effects.last() {
-        Some(last) => same_effect(*last, effect),
-        None => false,
-    }
-}
-
-fn same_effects(a: &[Effect], b: &[Effect]) -> bool {
-    for (x, y) in a.iter().zip(b.iter()) {
-        if !same_effect(*x, *y) {
-            return false;
-        }
-    }
-    a.len() == b.len()
-}
-
-fn same_words(program: &Program, words: &[u32]) -> bool {
-    for (placed, word) in program.code.iter().zip(words.iter()) {
-        if placed.word != *word {
-            return false;
-        }
-    }
-    program.code.len() == words.len()
 }

@@ -4,6 +4,7 @@ use reference::trace::Effect;
 use std::alloc::Global;
 use testbench::effects::effect_of;
 use testbench::failure::Failure;
+use testbench::runner;
 use testbench::session::Clock;
 use testbench::setup::Setup;
 use testbench::summary::Summary;
@@ -29,21 +30,13 @@ impl Record {
             gap: 0,
             idle: 0,
         };
-        for _ in 0..limit {
-            record.add(&session.clock()?)?;
-            if record.summary.stopped.is_some() {
-                break;
-            }
-        }
+        record.summary = runner::run(&mut session, limit, |_, clock| record.add(clock))?;
         Ok(record)
     }
 
     fn add(&mut self, clock: &Clock) -> Result<(), Failure> {
-        self.summary.add(clock);
         self.done.extend_from_slice(clock.done())?;
-        if let Some(request) = clock.outputs.request
-            && let Some(effect) = effect_of(request)
-        {
+        if let Some(effect) = clock.outputs.request.and_then(effect_of) {
             self.effects.push(effect)?;
         }
         self.idle = if clock.done().is_empty() {

@@ -32,18 +32,18 @@ fn show_line(rt: &HostRuntime, what: &str, refused: bool) -> Result<(), Failure>
 fn few_words(heap: Global) -> Result<bool, AllocError> {
     let mut core = vec![in heap; 7u32; CORE_WORDS - 1]?;
     let before = core.clone()?;
-    let few = matches!(ahead::start(0, &mut core), Started::Few);
+    let few = ahead::start(0, &mut core) == Started::Few;
     Ok(few && core == before)
 }
 
 fn no_ports(heap: Global, ins: usize, outs: usize) -> Result<bool, AllocError> {
     let mut core = vec![in heap; 0u32; CORE_WORDS]?;
-    let ready = matches!(ahead::start(0, &mut core), Started::Ready);
+    let ready = ahead::start(0, &mut core) == Started::Ready;
     let before = core.clone()?;
     let ins = vec![in heap; 0u32; ins]?;
     let mut outs = vec![in heap; 7u32; outs]?;
     let outs_before = outs.clone()?;
-    let refused = matches!(ahead::clock(&mut core, &ins, &mut outs), Clocked::NoPorts);
+    let refused = ahead::clock(&mut core, &ins, &mut outs) == Clocked::NoPorts;
     Ok(ready && refused && core == before && outs == outs_before)
 }
 
@@ -51,6 +51,6 @@ fn no_core(heap: Global, words: usize) -> Result<bool, AllocError> {
     let mut core = vec![in heap; 7u32; words]?;
     let before = core.clone()?;
     let mut outs = [7u32; 20];
-    let refused = matches!(ahead::clock(&mut core, &[0; 4], &mut outs), Clocked::NoCore);
+    let refused = ahead::clock(&mut core, &[0; 4], &mut outs) == Clocked::NoCore;
     Ok(refused && core == before && outs == [7; 20])
 }

@@ -10,7 +10,7 @@ use testbench::files::{Format, read_program};
 use testbench::lines::Shown;
 use testbench::setup::Setup;
 use testbench::summary::Summary;
-use testbench::versus::{Verdict, versus};
+use testbench::versus::versus;
 
 const DELAYS: [Delay; 5] = [
     Delay::Fixed(0),
@@ -25,60 +25,71 @@ const LIMIT: u64 = 20_000;
 
 pub fn show_all(rt: &HostRuntime) -> Result<(), Failure> {
     for case in Case::ALL {
-        show_case(rt, case)?;
+        Loaded::read(rt, case)?.show(rt)?;
     }
     show_sweep(rt)
 }
 
-fn show_case(rt: &HostRuntime, case: Case) -> Result<(), Failure> {
-    let program = program(rt, case)?;
-    let file = case.file();
-    let fact = case.fact();
-    println!(rt; "{file}: {fact}")?;
-    for delay in DELAYS {
-        show_run(rt, case, &program, delay)?;
-    }
-    Ok(())
+// A case and its program.
+#[derive(Drop)]
+struct Loaded {
+    case: Case,
+    program: Program,
 }
 
-fn program(rt: &HostRuntime, case: Case) -> Result<Program, Failure> {
-    let mut program = read_program(rt, case.file(), Format::Assembly)?;
-    if let Case::OddStart = case {
-        program.start = 2;
+impl Loaded {
+    fn read(rt: &HostRuntime, case: Case) -> Result<Loaded, Failure> {
+        let mut program = read_program(rt, case.file(), Format::Assembly)?;
+        if let Case::OddStart = case {
+            program.start = 2;
+        }
+        Ok(Loaded { case, program })
     }
-    Ok(program)
-}
 
-fn show_run(rt: &HostRuntime, case: Case, program: &Program, delay: Delay) -> Result<(), Failure> {
-    let heap = rt.alloc();
-    let setup = Setup {
-        program,
-        delay,
-        rest: Rest::Zero,
-        seed: 1,
-    };
-    let record = Record::of(heap, &setup, LIMIT)?;
-    let holds = case.holds(program, &record, delay.most());
-    let verdict = word(holds && agrees(heap, &setup)?);
-    let delay = delay.to_string(heap)?;
-    let end = end(heap, &record.summary)?;
-    let clocks = record.summary.clocks;
-    let instructions = record.summary.instructions;
-    println!(rt;
-        "  delay {delay:>5}: {clocks:>6} clocks {instructions:>6} instructions, {end}: {verdict}"
-    )?;
-    Ok(())
+    // What a run came to, and whether the fact holds of it and the manual agrees.
+    fn run(&self, heap: Global, delay: Delay) -> Result<(Summary, bool), Failure> {
+        let setup = Setup {
+            program: &self.program,
+            delay,
+            rest: Rest::Zero,
+            seed: 1,
+        };
+        let record = Record::of(heap, &setup, LIMIT)?;
+        let agrees = versus(heap, &setup, LIMIT)?.is_ok();
+        let holds = self.case.holds(&self.program, &record, delay.most());
+        Ok((record.summary, agrees && holds))
+    }
+
+    fn show(&self, rt: &HostRuntime) -> Result<(), Failure> {
+        let file = self.case.file();
+        let fact = self.case.fact();
+        println!(rt; "{file}: {fact}")?;
+        for delay in DELAYS {
+            self.show_run(rt, delay)?;
+        }
+        Ok(())
+    }
+
+    fn show_run(&self, rt: &HostRuntime, delay: Delay) -> Result<(), Failure> {
+        let heap = rt.alloc();
+        let (summary, holds) = self.run(heap, delay)?;
+        let Summary {
+            clocks,
+            instructions,
+            ..
+        } = summary;
+        let delay = delay.to_string(heap)?;
+        let end = end(heap, &summary)?;
+        let verdict = word(holds);
+        println!(rt;
+            "  delay {delay:>5}: {clocks:>6} clocks {instructions:>6} instructions, {end}: {verdict}"
+        )?;
+        Ok(())
+    }
 }
 
 fn word(holds: bool) -> &'static str {
     if holds { "ok" } else { "FAILED" }
-}
-
-fn agrees(heap: Global, setup: &Setup) -> Result<bool, Failure> {
-    match versus(heap, setup, LIMIT)? {
-        Verdict::Agrees(_) => Ok(true),
-        Verdict::Differs { .. } => Ok(false),
-    }
 }
 
 // How it stopped, and the last instruction done.
@@ -99,20 +110,12 @@ fn end(heap: Global, summary: &Summary) -> Result<String, AllocError> {
 // The branch over a device's read, with every delay up to 50.
 fn show_sweep(rt: &HostRuntime) -> Result<(), Failure> {
     let heap = rt.alloc();
-    let case = Case::EitherWay;
-    let program = program(rt, case)?;
-    let mut holds = true;
-    for clocks in 0..51 {
-        let setup = Setup {
-            program: &program,
-            delay: Delay::Fixed(clocks),
-            rest: Rest::Zero,
-            seed: 1,
-        };
-        let record = Record::of(heap, &setup, LIMIT)?;
-        holds = holds && case.holds(&program, &record, clocks) && agrees(heap, &setup)?;
-    }
-    let file = case.file();
+    let loaded = Loaded::read(rt, Case::EitherWay)?;
+    let holds = (0..51).try_fold(true, |holds, clocks| -> Result<bool, Failure> {
+        let (_, held) = loaded.run(heap, Delay::Fixed(clocks))?;
+        Ok(holds && held)
+    })?;
+    let file = loaded.case.file();
     let verdict = word(holds);
     println!(rt; "{file}, delay 0 to 50: {verdict}")?;
     Ok(())

@@ -1,7 +1,7 @@
-use Rattle.std.proofs.Common.{rules, ◌≡◌, IfSome, Some, ℕ, ◌+◌, ◌-◌, ◌*◌, ◌<◌, ◌≤◌, length, ◌/◌, ◌%◌, Bool, true, false, nat_eq, nat_lt, List, [], ◌∷◌, ◌++◌, slice_index_or, slice_set, bit_and, bit_or, Fits, w8, w32, w64, Bor, MutBor}
-use Rattle.isa.specs.Decoding.{decodes}
+use Rattle.std.proofs.Common.{Some, sym, ap, ◌∙◌}
+use Rattle.isa.proofs.Same.{instr_eq}
 use Rattle.encoding.proofs.encode.Goals as goal
 
--- src/lib.rt:12:1
+-- the word is taken where what it decodes to equals the instruction
 pub returns-then-eq : goal.returns-then-eq
-returns-then-eq c = ?
+returns-then-eq c = sym c.decode.ensures.value ∙ c.in_ok-decoded.was ∙ ap Some (instr_eq _ _ (sym c.if-eq.ensures))

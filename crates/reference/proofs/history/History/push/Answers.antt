@@ -1,5 +1,5 @@
 use Rattle.std.proofs.Common.{vec_items, refl}
-use Rattle.reference.specs.Machine.{ret_of}
+use Rattle.pins.specs.PortWords.{ret_of}
 use Rattle.reference.specs.History.{evs_of}
 use Rattle.reference.proofs.Recording.{one_more, one_effect, no_effect}
 use Rattle.reference.proofs.history.History.push.Goals as goal

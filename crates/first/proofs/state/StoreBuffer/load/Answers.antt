@@ -1,7 +1,0 @@
-use Rattle.std.proofs.Common.{rules}
-use Rattle.first.specs.Layout.{stores_of}
-use Rattle.first.proofs.state.StoreBuffer.load.Goals as goal
-
-pub returns : goal.returns
-unfolding stores_of
-returns c = search rules

@@ -1,7 +1,0 @@
-use Rattle.std.proofs.Common.{rules}
-use Rattle.first.specs.Layout.{stores_words}
-use Rattle.first.proofs.state.StoreBuffer.words.Goals as goal
-
-pub returns : goal.returns
-unfolding stores_words
-returns c = search rules
