@@ -1,6 +1,7 @@
 // From text to a program, in two passes: the addresses of the labels, then the words.
 use crate::cursor::Cursor;
 use crate::error::{AsmError, Problem};
+use crate::operands::Located;
 use crate::output::Output;
 use crate::program::Program;
 use crate::symbols::{Symbols, define};
@@ -18,14 +19,8 @@ pub fn assemble<'a>(heap: Global, text: &'a str) -> Result<Program, AsmError<'a>
 
 // The program, once all words are placed.
 pub fn finish<'a>(heap: Global, out: Output, text: &'a str) -> Result<Program, AsmError<'a>> {
-    match out.program(heap) {
-        Ok(program) => Ok(program),
-        Err(_) => Err(AsmError {
-            line: text.lines().count(),
-            problem: Problem::NoMemory,
-            text: "",
-        }),
-    }
+    out.program(heap)
+        .map_err(|e| Problem::from(e).at(text.lines().count(), ""))
 }
 
 fn find_labels<'a>(heap: Global, text: &'a str) -> Result<Symbols<'a>, AsmError<'a>> {
@@ -37,10 +32,9 @@ fn find_labels<'a>(heap: Global, text: &'a str) -> Result<Symbols<'a>, AsmError<
             define(&mut symbols, names, cursor.address(), i + 1)?;
         }
         if let Some(statement) = line.statement {
-            match cursor.after(statement) {
-                Ok(next) => cursor = next,
-                Err(fault) => return Err(statement.blame(fault, i + 1)),
-            }
+            cursor = cursor
+                .after(statement)
+                .map_err(|fault| statement.blame(fault, i + 1))?;
         }
     }
     Ok(symbols)
@@ -54,10 +48,14 @@ fn place_words<'a>(
     let mut cursor = Cursor::START;
     for (i, line) in text.lines().enumerate() {
         if let Some(statement) = split_line(line).statement {
-            match out.add(statement, symbols, cursor) {
-                Ok(next) => cursor = next,
-                Err(fault) => return Err(statement.blame(fault, i + 1)),
-            }
+            let located = Located {
+                statement,
+                symbols,
+                cursor,
+            };
+            cursor = out
+                .add(located)
+                .map_err(|fault| statement.blame(fault, i + 1))?;
         }
     }
     Ok(())

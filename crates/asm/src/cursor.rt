@@ -3,7 +3,7 @@ ghost use Rattle.std.specs.Prelude.{◌≡◌, ◌+◌, ◌*◌, ◌%◌, ◌^�
 ghost use Rattle.asm.specs.Cursors.{here};
 
 use crate::error::{Fault, Problem};
-use crate::pseudo::{Pseudo, constant_size};
+use crate::pseudo::Pseudo;
 use crate::text::{Statement, number};
 
 // Whether it is code or data that is placed, and where the next word of each goes.
@@ -62,10 +62,7 @@ impl Cursor {
     // Where it stands after a statement.
     pub fn after(self, s: Statement) -> Result<Cursor, Fault> {
         match s.name {
-            ".org" => {
-                s.expect(1)?;
-                Ok(self.at(fixed_address(s)?))
-            }
+            ".org" => Ok(self.at(fixed_address(s)?)),
             ".data" => self.to_data(s),
             ".text" => {
                 s.expect(0)?;
@@ -82,18 +79,14 @@ impl Cursor {
 
     // `.data address`, or `.data` to go on where the data stopped.
     fn to_data(self, s: Statement) -> Result<Cursor, Fault> {
-        let data = if s.count() == 0 {
-            self.data
+        let address = if s.count() == 0 {
+            self.data.ok_or(Problem::NoDataAddress)?
         } else {
-            s.expect(1)?;
-            Some(fixed_address(s)?)
+            fixed_address(s)?
         };
-        if data.is_none() {
-            return Err(Fault::name(Problem::NoDataAddress));
-        }
         Ok(Cursor {
             in_data: true,
-            data,
+            data: Some(address),
             ..self
         })
     }
@@ -101,17 +94,22 @@ impl Cursor {
 
 // The only operand, a number that is a multiple of 4.
 fn fixed_address(s: Statement) -> Result<u32, Fault> {
-    match number(s.operand(0)?) {
-        Ok(address) if address % 4 != 0 => Err(Fault::operand(0, Problem::Misaligned(address))),
-        Ok(address) => Ok(address),
-        Err(problem) => Err(Fault::operand(0, problem)),
-    }
+    s.expect(1)?;
+    s.read(0, |text| aligned(number(text)?))
 }
 
+// An address, if it is a multiple of 4.
+pub(crate) fn aligned(address: u32) -> Result<u32, Problem> {
+    if address % 4 != 0 {
+        return Err(Problem::Misaligned(address));
+    }
+    Ok(address)
+}
+
+// How many words an instruction has.
 fn instruction_size(s: Statement) -> Result<usize, Fault> {
     match Pseudo::from_name(s.name) {
-        Some(Pseudo::Li) => constant_size(s),
-        Some(Pseudo::La) => Ok(2),
+        Some(p) if p.takes_both(s)? => Ok(2),
         _ => Ok(1),
     }
 }

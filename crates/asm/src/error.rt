@@ -1,16 +1,20 @@
 // What can be wrong with a program's text.
+ghost use Rattle.std.specs.Prelude.{◌≡◌, Some, None};
+ghost use Rattle.asm.specs.declared.error.Problem.TheVariants.{NoMemory};
+
 use std::alloc::{AllocError, AllocFailed};
+use std::error::Error;
 use std::fmt;
 
 // What is wrong, the line that has it, counted from 1, and the text that is at fault.
-#[derive(Clone, Copy)]
+#[derive(Clone, Copy, Debug, PartialEq, Eq)]
 pub struct AsmError<'a> {
     pub line: usize,
     pub problem: Problem,
     pub text: &'a str,
 }
 
-#[derive(Clone, Copy)]
+#[derive(Clone, Copy, Debug, PartialEq, Eq)]
 pub enum Problem {
     UnknownInstruction,
     UnknownDirective,
@@ -32,6 +36,7 @@ pub enum Problem {
     NoMemory,
 }
 
+// By hand: the text at fault stands inside the message, and it is no part of the problem.
 impl fmt::Display for AsmError<'_> {
     fn fmt<W: fmt::Write>(&self, f: &mut fmt::Formatter<W>) -> fmt::Result {
         let line = self.line;
@@ -63,44 +68,68 @@ impl fmt::Display for AsmError<'_> {
     }
 }
 
-// The part of a statement that is at fault.
-#[derive(Clone, Copy)]
-pub enum Part {
-    Name,
-    Operand(usize),
+impl Error for AsmError<'_> {}
+
+impl Problem {
+    // The same, on a line, with the text that is at fault.
+    pub(crate) fn at<'a>(self, line: usize, text: &'a str) -> AsmError<'a> {
+        AsmError {
+            line,
+            problem: self,
+            text,
+        }
+    }
 }
 
-// What is wrong with a statement, and with which part of it.
-#[derive(Clone, Copy)]
+impl From<AllocError> for Problem {
+    ghost from_gives = { λ _ p. p ≡ NoMemory };
+
+    fn from(_e: AllocError) -> Problem {
+        Problem::NoMemory
+    }
+}
+
+impl<T: Drop> From<AllocFailed<T>> for Problem {
+    ghost from_gives = { λ _ p. p ≡ NoMemory };
+
+    fn from(_e: AllocFailed<T>) -> Problem {
+        Problem::NoMemory
+    }
+}
+
+// What is wrong with a statement, and the place of the operand that is at fault, or none if the name is.
+#[derive(Clone, Copy, Debug, PartialEq, Eq)]
 pub struct Fault {
     pub problem: Problem,
-    pub part: Part,
+    pub place: Option<usize>,
 }
 
 impl Fault {
-    pub fn name(problem: Problem) -> Fault {
+    pub fn name(problem: Problem) -> Fault
+        ensures problem { result.problem ≡ problem }
+        ensures place { result.place ≡ None }
+    {
         Fault {
             problem,
-            part: Part::Name,
+            place: None,
         }
     }
 
-    pub fn operand(place: usize, problem: Problem) -> Fault {
+    pub fn operand(place: usize, problem: Problem) -> Fault
+        ensures problem { result.problem ≡ problem }
+        ensures place { result.place ≡ Some place }
+    {
         Fault {
             problem,
-            part: Part::Operand(place),
+            place: Some(place),
         }
     }
 }
 
-impl From<AllocError> for Fault {
-    fn from(_e: AllocError) -> Fault {
-        Fault::name(Problem::NoMemory)
-    }
-}
+impl From<Problem> for Fault {
+    ghost from_gives = { λ p f. (f.problem ≡ p) × (f.place ≡ None) };
 
-impl<T: Drop> From<AllocFailed<T>> for Fault {
-    fn from(_e: AllocFailed<T>) -> Fault {
-        Fault::name(Problem::NoMemory)
+    fn from(problem: Problem) -> Fault {
+        Fault::name(problem)
     }
 }

@@ -31,16 +31,7 @@ fn read_line<'a>(
 ) -> Result<Cursor, AsmError<'a>> {
     let mut cursor = start;
     for text in text.split_whitespace() {
-        match read_item(out, cursor, text) {
-            Ok(next) => cursor = next,
-            Err(problem) => {
-                return Err(AsmError {
-                    line,
-                    problem,
-                    text,
-                });
-            }
-        }
+        cursor = read_item(out, cursor, text).map_err(|problem| problem.at(line, text))?;
     }
     Ok(cursor)
 }
@@ -48,14 +39,11 @@ fn read_line<'a>(
 // A word, or `@` and the number of a word.
 fn read_item(out: &mut Output, cursor: Cursor, text: &str) -> Result<Cursor, Problem> {
     if let Some(digits) = text.strip_prefix('@') {
-        let number = hex_number(digits)?;
-        if number >= 1 << 30 {
-            return Err(Problem::OutOfRange);
-        }
-        return Ok(cursor.at(number * 4));
+        let address = hex_number(digits)?
+            .checked_mul(4)
+            .ok_or(Problem::OutOfRange)?;
+        return Ok(cursor.at(address));
     }
-    match out.place(cursor, hex_number(text)?) {
-        Ok(()) => Ok(cursor.on(1)),
-        Err(fault) => Err(fault.problem),
-    }
+    out.place(cursor, hex_number(text)?)?;
+    Ok(cursor.on(1))
 }

@@ -1,5 +1,8 @@
 // From a word to text.
+ghost use Rattle.std.specs.Prelude.{◌≡◌};
+
 use crate::names::{Mnemonic, register_name};
+use crate::program::Placed;
 use isa::decode::decode;
 use isa::instr::{AluOp, Instr};
 use std::fmt;
@@ -11,11 +14,22 @@ pub struct Listing {
     pub word: u32,
 }
 
+impl From<Placed> for Listing {
+    ghost from_gives = { λ p l. (l.pc ≡ p.address) × (l.word ≡ p.word) };
+
+    fn from(placed: Placed) -> Listing {
+        Listing {
+            pc: placed.address,
+            word: placed.word,
+        }
+    }
+}
+
 impl fmt::Display for Listing {
     fn fmt<W: fmt::Write>(&self, f: &mut fmt::Formatter<W>) -> fmt::Result {
         let word = self.word;
         if let Some(instr) = decode(word)
-            && let Some(name) = Mnemonic::of(instr).name()
+            && let Some(name) = Mnemonic::from(instr).name()
         {
             f.write_str(name)?;
             return write_operands(f, instr, self.pc);

@@ -28,12 +28,10 @@ pub fn register(name: &str) -> Option<Reg> {
     if name == "fp" {
         return Some(Reg { number: 8 });
     }
-    for number in 0..32u8 {
-        if REGISTERS[number as usize] == name {
-            return Some(Reg { number });
-        }
+    match REGISTERS.iter().position(|known| *known == name) {
+        Some(i) => Some(Reg { number: i as u8 }),
+        None => numbered_register(name),
     }
-    numbered_register(name)
 }
 
 // `x0` to `x31`.
@@ -49,7 +47,7 @@ fn numbered_register(name: &str) -> Option<Reg> {
 }
 
 // What an instruction is called, without its operands.
-#[derive(Clone, Copy, PartialEq)]
+#[derive(Clone, Copy, PartialEq, Eq)]
 pub enum Mnemonic {
     Lui,
     Auipc,
@@ -103,17 +101,16 @@ static MNEMONICS: [(&str, Mnemonic); 36] = [
     ("ecall", Mnemonic::Ecall),
 ];
 
-impl Mnemonic {
-    pub fn from_name(name: &str) -> Option<Mnemonic> {
-        for (known, meaning) in MNEMONICS.iter() {
-            if *known == name {
-                return Some(*meaning);
-            }
-        }
-        None
-    }
+// What a name means, by a table.
+pub(crate) fn lookup<T: Copy>(table: &[(&str, T)], name: &str) -> Option<T> {
+    table
+        .iter()
+        .find(|(known, _)| *known == name)
+        .map(|(_, meaning)| *meaning)
+}
 
-    pub fn of(instr: Instr) -> Mnemonic {
+impl From<Instr> for Mnemonic {
+    fn from(instr: Instr) -> Mnemonic {
         match instr {
             Instr::Lui { .. } => Mnemonic::Lui,
             Instr::Auipc { .. } => Mnemonic::Auipc,
@@ -128,14 +125,18 @@ impl Mnemonic {
             Instr::Ecall => Mnemonic::Ecall,
         }
     }
+}
+
+impl Mnemonic {
+    pub fn from_name(name: &str) -> Option<Mnemonic> {
+        lookup(&MNEMONICS, name)
+    }
 
     // None for what is no instruction: an immediate's subtraction.
     pub fn name(self) -> Option<&'static str> {
-        for (known, meaning) in MNEMONICS.iter() {
-            if *meaning == self {
-                return Some(*known);
-            }
-        }
-        None
+        MNEMONICS
+            .iter()
+            .find(|(_, meaning)| *meaning == self)
+            .map(|(name, _)| *name)
     }
 }

@@ -1,25 +1,16 @@
 // The operands of a statement, by their places from 0.
-use crate::error::{AsmError, Fault, Part, Problem};
-use crate::names::register;
+use crate::cursor::Cursor;
+use crate::error::{AsmError, Fault, Problem};
+use crate::names::{ZERO, register};
 use crate::symbols::{Symbols, value};
 use crate::text::Statement;
 use isa::reg::Reg;
+use std::cmp::Ordering;
 
 impl<'a> Statement<'a> {
-    // The text that is at fault.
-    pub fn part(self, part: Part) -> &'a str {
-        match part {
-            Part::Name => self.name,
-            Part::Operand(place) => self.operands.split(',').nth(place).unwrap_or("").trim(),
-        }
-    }
-
     pub fn blame(self, fault: Fault, line: usize) -> AsmError<'a> {
-        AsmError {
-            line,
-            problem: fault.problem,
-            text: self.part(fault.part),
-        }
+        let text = fault.place.map_or(self.name, |place| self.text(place));
+        fault.problem.at(line, text)
     }
 
     pub fn count(self) -> usize {
@@ -32,12 +23,10 @@ impl<'a> Statement<'a> {
 
     // Refuses more or fewer operands.
     pub fn expect(self, count: usize) -> Result<(), Fault> {
-        if self.count() < count {
-            Err(Fault::name(Problem::MissingOperand))
-        } else if self.count() > count {
-            Err(Fault::name(Problem::TooManyOperands))
-        } else {
-            Ok(())
+        match self.count().cmp(&count) {
+            Ordering::Less => Err(Fault::name(Problem::MissingOperand)),
+            Ordering::Greater => Err(Fault::name(Problem::TooManyOperands)),
+            Ordering::Equal => Ok(()),
         }
     }
 
@@ -49,51 +38,98 @@ impl<'a> Statement<'a> {
         Ok(())
     }
 
-    // An operand by its place, from 0.
-    pub fn operand(self, place: usize) -> Result<&'a str, Fault> {
-        let text = self.part(Part::Operand(place));
-        if text.is_empty() {
-            return Err(Fault::name(Problem::MissingOperand));
-        }
-        Ok(text)
+    // An operand's text, or nothing if it is missing.
+    fn text(self, place: usize) -> &'a str {
+        self.operands.split(',').nth(place).unwrap_or("").trim()
+    }
+
+    // What an operand is read as.
+    pub(crate) fn read<T, F: FnOnce(&'a str) -> Result<T, Problem>>(
+        self,
+        place: usize,
+        f: F,
+    ) -> Result<T, Fault>
+        requires { F.IsAlwaysCallable f }
+    {
+        read(place, self.text(place), f)
     }
 
     pub fn register(self, place: usize) -> Result<Reg, Fault> {
-        match register(self.operand(place)?) {
-            Some(reg) => Ok(reg),
-            None => Err(Fault::operand(place, Problem::BadRegister)),
-        }
+        self.read(place, |text| register(text).ok_or(Problem::BadRegister))
     }
 
-    pub fn value(self, place: usize, symbols: &Symbols) -> Result<u32, Fault> {
-        match value(symbols, self.operand(place)?) {
-            Ok(n) => Ok(n),
-            Err(problem) => Err(Fault::operand(place, problem)),
+    // The first operands, which are registers, of as many operands as `count`.
+    pub(crate) fn registers<const N: usize>(self, count: usize) -> Result<[Reg; N], Fault> {
+        self.expect(count)?;
+        let mut all = [ZERO; N];
+        for (place, reg) in all.iter_mut().enumerate() {
+            *reg = self.register(place)?;
         }
+        Ok(all)
+    }
+}
+
+// A statement with what its operands depend on: where it stands, and the addresses of the labels.
+#[derive(Clone, Copy)]
+pub struct Located<'s, 'a> {
+    pub statement: Statement<'a>,
+    pub symbols: &'s Symbols<'a>,
+    pub cursor: Cursor,
+}
+
+impl Located<'_, '_> {
+    pub fn value(self, place: usize) -> Result<u32, Fault> {
+        self.statement.read(place, |text| value(self.symbols, text))
     }
 
-    // How far a target lies from `pc`.
-    pub fn offset(self, place: usize, symbols: &Symbols, pc: u32) -> Result<u32, Fault> {
-        Ok(self.value(place, symbols)?.wrapping_sub(pc))
+    // Calls a function with the place and the value of each operand, of at least one.
+    pub(crate) fn each_value<F: FnMut(usize, u32) -> Result<(), Problem>>(
+        self,
+        mut f: F,
+    ) -> Result<(), Fault>
+        requires { F.IsAlwaysCallable f }
+    {
+        self.statement.expect_some()?;
+        for (place, text) in self.statement.operands.split(',').enumerate() {
+            let number = read(place, text.trim(), |text| value(self.symbols, text))?;
+            f(place, number)?;
+        }
+        Ok(())
     }
 
-    // The register and the offset of an operand `offset(register)`, where no offset is 0.
-    pub fn address(self, place: usize, symbols: &Symbols) -> Result<(Reg, u32), Fault> {
-        let Some((offset, rest)) = self.operand(place)?.rsplit_once('(') else {
-            return Err(Fault::operand(place, Problem::BadAddress));
-        };
-        let Some(base) = rest.strip_suffix(')') else {
-            return Err(Fault::operand(place, Problem::BadAddress));
-        };
-        let Some(reg) = register(base.trim()) else {
-            return Err(Fault::operand(place, Problem::BadRegister));
-        };
-        if offset.trim().is_empty() {
-            return Ok((reg, 0));
-        }
-        match value(symbols, offset.trim()) {
-            Ok(n) => Ok((reg, n)),
-            Err(problem) => Err(Fault::operand(place, problem)),
-        }
+    // How far a target lies from here.
+    pub fn offset(self, place: usize) -> Result<u32, Fault> {
+        Ok(self.value(place)?.wrapping_sub(self.cursor.address()))
+    }
+
+    // The register and the offset of an operand `offset(register)`.
+    pub fn address(self, place: usize) -> Result<(Reg, u32), Fault> {
+        self.statement
+            .read(place, |text| address(self.symbols, text))
+    }
+}
+
+// What the operand at `place` is read as, by its text.
+fn read<'a, T, F: FnOnce(&'a str) -> Result<T, Problem>>(
+    place: usize,
+    text: &'a str,
+    f: F,
+) -> Result<T, Fault>
+    requires { F.IsAlwaysCallable f }
+{
+    if text.is_empty() {
+        return Err(Fault::name(Problem::MissingOperand));
+    }
+    f(text).map_err(|problem| Fault::operand(place, problem))
+}
+
+// `offset(register)`, where no offset is 0.
+fn address(symbols: &Symbols, text: &str) -> Result<(Reg, u32), Problem> {
+    let (offset, rest) = text.rsplit_once('(').ok_or(Problem::BadAddress)?;
+    let base = rest.strip_suffix(')').ok_or(Problem::BadAddress)?;
+    let reg = register(base.trim()).ok_or(Problem::BadRegister)?;
+    match offset.trim() {
+        "" => Ok((reg, 0)),
+        offset => Ok((reg, value(symbols, offset)?)),
     }
 }

@@ -1,12 +1,12 @@
 // The words of a program as they are placed.
-use crate::cursor::Cursor;
+use crate::cursor::{Cursor, aligned};
 use crate::error::{Fault, Problem};
-use crate::instruction::instruction;
 use crate::names::Mnemonic;
+use crate::operands::Located;
 use crate::program::{Placed, Program};
-use crate::pseudo::{Pseudo, Words, pseudo_words};
-use crate::symbols::Symbols;
-use crate::text::Statement;
+use crate::pseudo::{Pseudo, Words};
+use crate::symbols::value;
+use isa::devices::DEVICES;
 use std::alloc::{AllocError, Global};
 use std::collections::BTreeMap;
 
@@ -31,71 +31,47 @@ impl Output {
         }
     }
 
-    // Does what a statement says at the cursor, and answers where the next one stands.
-    pub fn add(
-        &mut self,
-        s: Statement,
-        symbols: &Symbols,
-        cursor: Cursor,
-    ) -> Result<Cursor, Fault> {
-        match s.name {
+    // Does what a statement says, and answers where the next one stands.
+    pub fn add(&mut self, located: Located) -> Result<Cursor, Fault> {
+        let cursor = located.cursor;
+        match located.statement.name {
             ".org" | ".data" | ".text" => {}
-            ".word" => self.add_words(s, symbols, cursor)?,
-            ".answers" => self.add_answers(s, symbols)?,
-            ".start" => self.set_start(s, symbols)?,
+            ".word" => located.each_value(|i, word| self.place(cursor.on(i), word))?,
+            ".answers" => located.each_value(|_, answer| Ok(self.answers.push(answer)?))?,
+            ".start" => self.set_start(located)?,
             _ => {
-                let words = words(s, symbols, cursor)?;
+                let words = located.words()?;
                 self.place(cursor, words.first)?;
                 if let Some(second) = words.second {
                     self.place(cursor.on(1), second)?;
                 }
             }
         }
-        cursor.after(s)
+        cursor.after(located.statement)
     }
 
     // Puts a word at the cursor, where none may be yet.
-    pub fn place(&mut self, cursor: Cursor, word: u32) -> Result<(), Fault> {
+    pub fn place(&mut self, cursor: Cursor, word: u32) -> Result<(), Problem> {
         let address = cursor.address();
         let old = if cursor.in_data {
-            if address >= 1 << 31 {
-                return Err(Fault::name(Problem::DeviceAddress(address)));
+            if address >= DEVICES {
+                return Err(Problem::DeviceAddress(address));
             }
             self.data.insert(address, word)?
         } else {
-            if self.first.is_none() {
-                self.first = Some(address);
-            }
+            self.first.get_or_insert(address);
             self.code.insert(address, word)?
         };
         match old {
-            Some(_) => Err(Fault::name(Problem::PlacedTwice(address))),
+            Some(_) => Err(Problem::PlacedTwice(address)),
             None => Ok(()),
         }
     }
 
-    fn add_words(&mut self, s: Statement, symbols: &Symbols, cursor: Cursor) -> Result<(), Fault> {
-        s.expect_some()?;
-        for i in 0..s.count() {
-            self.place(cursor.on(i), s.value(i, symbols)?)?;
-        }
-        Ok(())
-    }
-
-    fn add_answers(&mut self, s: Statement, symbols: &Symbols) -> Result<(), Fault> {
-        s.expect_some()?;
-        for i in 0..s.count() {
-            self.answers.push(s.value(i, symbols)?)?;
-        }
-        Ok(())
-    }
-
-    fn set_start(&mut self, s: Statement, symbols: &Symbols) -> Result<(), Fault> {
-        s.expect(1)?;
-        let address = s.value(0, symbols)?;
-        if address % 4 != 0 {
-            return Err(Fault::operand(0, Problem::Misaligned(address)));
-        }
+    fn set_start(&mut self, located: Located) -> Result<(), Fault> {
+        let statement = located.statement;
+        statement.expect(1)?;
+        let address = statement.read(0, |text| aligned(value(located.symbols, text)?))?;
         if self.start.is_some() {
             return Err(Fault::operand(0, Problem::StartTwice));
         }
@@ -113,47 +89,42 @@ impl Output {
             first,
         } = self;
         Ok(Program {
-            code: placed(heap, &code)?,
-            data: placed(heap, &data)?,
+            code: placed(heap, code)?,
+            data: placed(heap, data)?,
             answers,
-            start: start.unwrap_or(first.unwrap_or(0)),
+            start: start.or(first).unwrap_or(0),
         })
     }
 }
 
-fn placed(heap: Global, words: &BTreeMap<u32, u32>) -> Result<Vec<Placed>, AllocError> {
-    let mut all = Vec::new(heap);
-    for (address, word) in words.iter() {
-        all.push(Placed {
-            address: *address,
-            word: *word,
-        })?;
-    }
-    Ok(all)
+fn placed(heap: Global, words: BTreeMap<u32, u32>) -> Result<Vec<Placed>, AllocError> {
+    words
+        .into_iter()
+        .map(|(address, word)| Placed { address, word })
+        .collect(heap)
 }
 
-// The words of an instruction.
-fn words(s: Statement, symbols: &Symbols, cursor: Cursor) -> Result<Words, Fault> {
-    if s.name.starts_with('.') {
-        return Err(Fault::name(Problem::UnknownDirective));
-    }
-    let pc = cursor.address();
-    if let Some(m) = Mnemonic::from_name(s.name) {
-        no_data(cursor)?;
-        return Ok(Words::one(instruction(m, s, symbols, pc)?));
-    }
-    match Pseudo::from_name(s.name) {
-        Some(p) => {
-            no_data(cursor)?;
-            pseudo_words(p, s, symbols, pc)
+impl Located<'_, '_> {
+    // The words of an instruction.
+    fn words(self) -> Result<Words, Fault> {
+        let name = self.statement.name;
+        if name.starts_with('.') {
+            return Err(Fault::name(Problem::UnknownDirective));
         }
-        None => Err(Fault::name(Problem::UnknownInstruction)),
+        if let Some(m) = Mnemonic::from_name(name) {
+            self.expect_code()?;
+            return Ok(Words::one(self.instruction(m)?));
+        }
+        let p = Pseudo::from_name(name).ok_or(Problem::UnknownInstruction)?;
+        self.expect_code()?;
+        self.pseudo_words(p)
     }
-}
 
-fn no_data(cursor: Cursor) -> Result<(), Fault> {
-    if cursor.in_data {
-        return Err(Fault::name(Problem::NotData));
+    // Refuses to stand among data.
+    fn expect_code(self) -> Result<(), Fault> {
+        if self.cursor.in_data {
+            return Err(Fault::name(Problem::NotData));
+        }
+        Ok(())
     }
-    Ok(())
 }

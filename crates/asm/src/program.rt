@@ -1,7 +1,7 @@
 // What an assembler gives: words with their addresses.
 
 // A word and its address, a multiple of 4.
-#[derive(Clone, Copy)]
+#[derive(Clone, Copy, Debug, PartialEq, Eq)]
 pub struct Placed {
     pub address: u32,
     pub word: u32,

@@ -6,9 +6,10 @@ ghost use Rattle.isa.specs.Decoding.{decodes};
 ghost use Rattle.asm.specs.Constants.{Loads};
 
 use crate::error::Fault;
-use crate::instruction::{branch, branch_operands, jump, jump_register, operation, word};
-use crate::names::{RA, ZERO};
-use crate::symbols::{Symbols, lower, upper};
+use crate::instruction::{branch, operation, word};
+use crate::names::{RA, ZERO, lookup};
+use crate::operands::Located;
+use crate::symbols::{lower, upper};
 use crate::text::{Statement, is_number, number};
 use isa::instr::{AluOp, Cond, Instr};
 use isa::reg::Reg;
@@ -63,12 +64,22 @@ static PSEUDOS: [(&str, Pseudo); 24] = [
 
 impl Pseudo {
     pub fn from_name(name: &str) -> Option<Pseudo> {
-        for (known, meaning) in PSEUDOS.iter() {
-            if *known == name {
-                return Some(*meaning);
-            }
+        lookup(&PSEUDOS, name)
+    }
+
+    // Whether it takes both halves of a constant: `la` does, and `li` unless one is enough and it is a number, known before any label.
+    pub(crate) fn takes_both(self, s: Statement) -> Result<bool, Fault> {
+        match self {
+            Pseudo::La => Ok(true),
+            Pseudo::Li => s.read(1, |text| {
+                if !is_number(text) {
+                    return Ok(true);
+                }
+                let n = number(text)?;
+                Ok(lower(n) != 0 && lower(n) != n)
+            }),
+            _ => Ok(false),
         }
-        None
     }
 }
 
@@ -88,25 +99,6 @@ impl Words {
             second: None,
         }
     }
-}
-
-// How many words `li` takes: one if half of the value is enough, and it is a number, known before any label.
-pub fn constant_size(s: Statement) -> Result<usize, Fault> {
-    let text = s.operand(1)?;
-    if !is_number(text) {
-        return Ok(2);
-    }
-    match number(text) {
-        Ok(n) if lower(n) == 0 || lower(n) == n => Ok(1),
-        Ok(_) => Ok(2),
-        Err(problem) => Err(Fault::operand(1, problem)),
-    }
-}
-
-// The words of `li` and `la`, as many as `size`.
-fn constant(s: Statement, symbols: &Symbols, size: usize) -> Result<Words, Fault> {
-    s.expect(2)?;
-    load(s.register(0)?, s.value(1, symbols)?, size == 2)
 }
 
 // Loads a constant in one word, or in two if `split`.
@@ -134,48 +126,50 @@ fn add_imm(rd: Reg, rs1: Reg, imm: u32) -> Result<u32, Fault>
     word(Instr::AluImm { op, rd, rs1, imm }, 1)
 }
 
-// The words of a statement whose name is the pseudo-instruction.
-pub fn pseudo_words(p: Pseudo, s: Statement, symbols: &Symbols, pc: u32) -> Result<Words, Fault> {
-    let first = match p {
-        Pseudo::Nop => nop(s)?,
-        Pseudo::Ret => ret(s)?,
-        Pseudo::J => jump(ZERO, s, symbols, pc)?,
-        Pseudo::Call => jump(RA, s, symbols, pc)?,
-        Pseudo::Jr => jump_register(ZERO, s)?,
-        Pseudo::Li => return constant(s, symbols, constant_size(s)?),
-        Pseudo::La => return constant(s, symbols, 2),
-        Pseudo::WithNumber(op, imm) => {
-            let (rd, rs1) = two_registers(s)?;
-            word(Instr::AluImm { op, rd, rs1, imm }, 0)?
-        }
-        Pseudo::ZeroFirst(op) => {
-            let (rd, rs) = two_registers(s)?;
-            operation(op, rd, ZERO, rs)?
-        }
-        Pseudo::ZeroLast(op) => {
-            let (rd, rs) = two_registers(s)?;
-            operation(op, rd, rs, ZERO)?
-        }
-        Pseudo::BranchZero(cond) => {
-            let (rs, offset) = zero_operands(s, symbols, pc)?;
-            branch(cond, rs, ZERO, offset, 1)?
-        }
-        Pseudo::ZeroBranch(cond) => {
-            let (rs, offset) = zero_operands(s, symbols, pc)?;
-            branch(cond, ZERO, rs, offset, 1)?
-        }
-        Pseudo::Swapped(cond) => {
-            let (rs1, rs2, offset) = branch_operands(s, symbols, pc)?;
-            branch(cond, rs2, rs1, offset, 2)?
-        }
-    };
-    Ok(Words::one(first))
-}
+impl Located<'_, '_> {
+    // The words of a statement whose name is the pseudo-instruction.
+    pub fn pseudo_words(self, p: Pseudo) -> Result<Words, Fault> {
+        let s = self.statement;
+        let first = match p {
+            Pseudo::Nop => nop(s)?,
+            Pseudo::Ret => ret(s)?,
+            Pseudo::J => self.jump(ZERO)?,
+            Pseudo::Call => self.jump(RA)?,
+            Pseudo::Jr => self.jump_register(ZERO)?,
+            Pseudo::Li | Pseudo::La => return self.constant(p.takes_both(s)?),
+            Pseudo::WithNumber(op, imm) => {
+                let [rd, rs1] = s.registers::<2>(2)?;
+                word(Instr::AluImm { op, rd, rs1, imm }, 0)?
+            }
+            Pseudo::ZeroFirst(op) => {
+                let [rd, rs] = s.registers::<2>(2)?;
+                operation(op, rd, ZERO, rs)?
+            }
+            Pseudo::ZeroLast(op) => {
+                let [rd, rs] = s.registers::<2>(2)?;
+                operation(op, rd, rs, ZERO)?
+            }
+            Pseudo::BranchZero(cond) => {
+                let ([rs], offset) = self.jump_operands::<1>()?;
+                branch(cond, rs, ZERO, offset, 1)?
+            }
+            Pseudo::ZeroBranch(cond) => {
+                let ([rs], offset) = self.jump_operands::<1>()?;
+                branch(cond, ZERO, rs, offset, 1)?
+            }
+            Pseudo::Swapped(cond) => {
+                let ([rs1, rs2], offset) = self.jump_operands::<2>()?;
+                branch(cond, rs2, rs1, offset, 2)?
+            }
+        };
+        Ok(Words::one(first))
+    }
 
-// Of a branch against zero: the register and the target.
-fn zero_operands(s: Statement, symbols: &Symbols, pc: u32) -> Result<(Reg, u32), Fault> {
-    s.expect(2)?;
-    Ok((s.register(0)?, s.offset(1, symbols, pc)?))
+    // The words of `li` and `la`.
+    fn constant(self, split: bool) -> Result<Words, Fault> {
+        let [rd] = self.statement.registers::<1>(2)?;
+        load(rd, self.value(1)?, split)
+    }
 }
 
 fn nop(s: Statement) -> Result<u32, Fault> {
@@ -194,9 +188,4 @@ fn ret(s: Statement) -> Result<u32, Fault> {
         },
         0,
     )
-}
-
-fn two_registers(s: Statement) -> Result<(Reg, Reg), Fault> {
-    s.expect(2)?;
-    Ok((s.register(0)?, s.register(1)?))
 }

@@ -15,27 +15,20 @@ pub fn define<'a>(
     address: u32,
     line: usize,
 ) -> Result<(), AsmError<'a>> {
-    for name in names.split(':') {
-        let text = name.trim();
-        if !is_label(text) {
-            return Err(AsmError {
-                line,
-                problem: Problem::BadLabel,
-                text,
-            });
-        }
-        let problem = match symbols.insert(text, address) {
-            Ok(None) => continue,
-            Ok(Some(_)) => Problem::LabelTwice,
-            Err(_) => Problem::NoMemory,
-        };
-        return Err(AsmError {
-            line,
-            problem,
-            text,
-        });
+    for name in names.split(':').map(str::trim) {
+        define_one(symbols, name, address).map_err(|problem| problem.at(line, name))?;
     }
     Ok(())
+}
+
+fn define_one<'a>(symbols: &mut Symbols<'a>, name: &'a str, address: u32) -> Result<(), Problem> {
+    if !is_label(name) {
+        return Err(Problem::BadLabel);
+    }
+    match symbols.insert(name, address)? {
+        Some(_) => Err(Problem::LabelTwice),
+        None => Ok(()),
+    }
 }
 
 // The value of an operand: a number, a label's address, or `%hi(label)` or `%lo(label)`.
@@ -44,10 +37,10 @@ pub fn value(symbols: &Symbols, text: &str) -> Result<u32, Problem> {
         return number(text);
     }
     if let Some(name) = inside(text, "%hi(") {
-        return Ok(upper(address_of(symbols, name)?));
+        return address_of(symbols, name).map(upper);
     }
     if let Some(name) = inside(text, "%lo(") {
-        return Ok(lower(address_of(symbols, name)?));
+        return address_of(symbols, name).map(lower);
     }
     address_of(symbols, text)
 }
@@ -57,10 +50,7 @@ fn inside<'a>(text: &'a str, front: &str) -> Option<&'a str> {
 }
 
 fn address_of(symbols: &Symbols, name: &str) -> Result<u32, Problem> {
-    match symbols.get(name) {
-        Some(address) => Ok(*address),
-        None => Err(Problem::UndefinedLabel),
-    }
+    symbols.get(name).copied().ok_or(Problem::UndefinedLabel)
 }
 
 // What `lui` takes so that `addi` with the lower part then gives x.

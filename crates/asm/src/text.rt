@@ -19,25 +19,20 @@ pub struct Statement<'a> {
 }
 
 pub fn split_line<'a>(line: &'a str) -> Line<'a> {
-    let text = before(before(before(line, "#"), ";"), "//");
-    match text.rsplit_once(':') {
-        Some((labels, rest)) => Line {
-            labels: Some(labels),
-            statement: split_statement(rest),
-        },
-        None => Line {
-            labels: None,
-            statement: split_statement(text),
-        },
+    let text = ["#", ";", "//"].into_iter().fold(line, before);
+    let (labels, rest) = match text.rsplit_once(':') {
+        Some((labels, rest)) => (Some(labels), rest),
+        None => (None, text),
+    };
+    Line {
+        labels,
+        statement: split_statement(rest),
     }
 }
 
 // The text before a mark, or all of it.
 pub fn before<'a>(text: &'a str, mark: &str) -> &'a str {
-    match text.split_once(mark) {
-        Some((front, _)) => front,
-        None => text,
-    }
+    text.split_once(mark).map_or(text, |(front, _)| front)
 }
 
 fn split_statement<'a>(text: &'a str) -> Option<Statement<'a>> {
@@ -49,20 +44,15 @@ fn split_statement<'a>(text: &'a str) -> Option<Statement<'a>> {
 
 // A letter, `_` or `.`, and then letters, digits, `_`, `.` and `$`.
 pub fn is_label(text: &str) -> bool {
-    for (i, b) in text.bytes().enumerate() {
-        let inside = i > 0 && (b.is_ascii_digit() || b == b'$');
-        if !inside && !b.is_ascii_alphabetic() && b != b'_' && b != b'.' {
-            return false;
-        }
-    }
-    !text.is_empty()
+    let begins = |c: char| c.is_ascii_alphabetic() || c == '_' || c == '.';
+    text.starts_with(begins)
+        && text
+            .chars()
+            .all(|c| begins(c) || c.is_ascii_digit() || c == '$')
 }
 
 pub fn is_number(text: &str) -> bool {
-    match text.as_bytes().first() {
-        Some(b) => *b == b'-' || b.is_ascii_digit(),
-        None => false,
-    }
+    text.starts_with(|c: char| c == '-' || c.is_ascii_digit())
 }
 
 // A number, decimal or `0x` and hexadecimal, from -2^31 to 2^32 - 1: a negative one as the 32 bits that stand for it.
@@ -93,16 +83,8 @@ pub fn hex_number(digits: &str) -> Result<u32, Problem> {
 fn from_digits(digits: &str, radix: u32) -> Result<u32, Problem>
     requires { (2 ≤ radix) × (radix ≤ 36) }
 {
-    if digits.is_empty() {
+    if digits.is_empty() || !digits.chars().all(|c| c.is_digit(radix)) {
         return Err(Problem::BadNumber);
     }
-    for c in digits.chars() {
-        if c.to_digit(radix).is_none() {
-            return Err(Problem::BadNumber);
-        }
-    }
-    match u32::from_str_radix(digits, radix) {
-        Ok(n) => Ok(n),
-        Err(_) => Err(Problem::OutOfRange),
-    }
+    u32::from_str_radix(digits, radix).map_err(|_| Problem::OutOfRange)
 }

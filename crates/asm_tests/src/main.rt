@@ -3,6 +3,7 @@
 
 use anyhow::anyhow;
 use asm::assemble::assemble;
+use asm::error::AsmError;
 use asm::hex::read_hex;
 use asm::listing::Listing;
 use asm::program::{Placed, Program};
@@ -13,37 +14,27 @@ use std::fs;
 
 // The assembler's words against those of another assembler.
 fn compare(rt: &HostRuntime) -> anyhow::Result<()> {
+    let heap = rt.alloc();
     let source = fs::read_to_string(rt, "all.s")?;
     let expected = fs::read_to_string(rt, "all.hex")?;
-    let Ok(ours) = assemble(rt.alloc(), source.as_str()) else {
-        return Err(anyhow!("all.s is refused"));
-    };
-    let Ok(theirs) = read_hex(rt.alloc(), expected.as_str()) else {
-        return Err(anyhow!("all.hex is refused"));
-    };
-    let mut same = 0u64;
-    for (a, b) in ours.code.iter().zip(theirs.code.iter()) {
-        if a.address == b.address && a.word == b.word {
-            same = same.saturating_add(1);
-        } else {
-            println!(rt;
-                "{:#x}: {:#x}, but {:#x}: {:#x}",
-                a.address, a.word, b.address, b.word
-            )?;
-        }
+    let ours = assemble(heap, source.as_str()).map_err(|_| anyhow!("all.s is refused"))?;
+    let theirs = read_hex(heap, expected.as_str()).map_err(|_| anyhow!("all.hex is refused"))?;
+    let (ours, theirs) = (ours.code.as_slice(), theirs.code.as_slice());
+    for (a, b) in ours.iter().zip(theirs).filter(|(a, b)| a != b) {
+        println!(rt;
+            "{:#x}: {:#x}, but {:#x}: {:#x}",
+            a.address, a.word, b.address, b.word
+        )?;
     }
-    println!(rt;
-        "{same} of {} and {} words agree",
-        ours.code.len(),
-        theirs.code.len()
-    )?;
+    let same = ours.iter().zip(theirs).filter(|(a, b)| a == b).count();
+    println!(rt; "{same} of {} and {} words agree", ours.len(), theirs.len())?;
     Ok(())
 }
 
 // Each word is listed, and what is listed gives the word again.
-fn round_trip(rt: &HostRuntime, code: &Vec<Placed>) -> anyhow::Result<()> {
+fn round_trip(rt: &HostRuntime, code: &[Placed]) -> anyhow::Result<()> {
     let mut same = 0u64;
-    for placed in code.iter() {
+    for placed in code {
         if again(rt.alloc(), *placed)? {
             same = same.saturating_add(1);
         } else {
@@ -58,19 +49,10 @@ fn round_trip(rt: &HostRuntime, code: &Vec<Placed>) -> anyhow::Result<()> {
 }
 
 fn again(heap: Global, placed: Placed) -> anyhow::Result<bool> {
-    let pc = placed.address;
-    let listing = Listing {
-        pc,
-        word: placed.word,
-    };
-    let source = format!(in heap; ".org {pc:#x}\n{listing}")?;
-    let Ok(program) = assemble(heap, source.as_str()) else {
-        return Ok(false);
-    };
-    match program.code.first() {
-        Some(p) => Ok(p.word == placed.word && p.address == pc && program.code.len() == 1),
-        None => Ok(false),
-    }
+    let listing = Listing::from(placed);
+    let source = format!(in heap; ".org {:#x}\n{listing}", placed.address)?;
+    let program = assemble(heap, source.as_str());
+    Ok(program.is_ok_and(|program| program.code.as_slice() == [placed].as_slice()))
 }
 
 const OPCODES: [u32; 9] = [0x37, 0x17, 0x6f, 0x67, 0x63, 0x03, 0x23, 0x13, 0x33];
@@ -80,9 +62,9 @@ fn sweep(rt: &HostRuntime) -> anyhow::Result<()> {
     let mut seed = 1u32;
     let mut instructions = 0u32;
     let mut wrong = 0u32;
-    for i in 0..1_000_000u32 {
+    for (i, opcode) in (0..1_000_000u32).zip(OPCODES.iter().cycle()) {
         seed = seed.wrapping_mul(1_664_525).wrapping_add(1_013_904_223);
-        let word = (seed ^ seed >> 15) & !0x7f | OPCODES[(i % 9) as usize];
+        let word = (seed ^ seed >> 15) & !0x7f | *opcode;
         let address = seed.rotate_left(16) & !3;
         if let Some(instr) = decode(word) {
             instructions = instructions.saturating_add(1);
@@ -99,17 +81,14 @@ fn sweep(rt: &HostRuntime) -> anyhow::Result<()> {
 fn show_program(rt: &HostRuntime, program: &Program) -> anyhow::Result<()> {
     println!(rt; "start {:#x}", program.start)?;
     for p in program.code.iter() {
-        let listing = Listing {
-            pc: p.address,
-            word: p.word,
-        };
+        let listing = Listing::from(*p);
         println!(rt; "{:#010x}: {:#010x} {listing}", p.address, p.word)?;
     }
     for p in program.data.iter() {
         println!(rt; "data {:#x}: {:#x}", p.address, p.word)?;
     }
     println!(rt; "answers {:?}", program.answers)?;
-    round_trip(rt, &program.code)
+    round_trip(rt, program.code.as_slice())
 }
 
 fn show_source(rt: &HostRuntime, name: &str) -> anyhow::Result<()> {
@@ -127,9 +106,7 @@ fn show_source(rt: &HostRuntime, name: &str) -> anyhow::Result<()> {
 // The words, as numbers.
 fn show_words(rt: &HostRuntime, name: &str) -> anyhow::Result<()> {
     let text = fs::read_to_string(rt, name)?;
-    let Ok(program) = assemble(rt.alloc(), text.as_str()) else {
-        return Err(anyhow!("it is refused"));
-    };
+    let program = assemble(rt.alloc(), text.as_str()).map_err(|_| anyhow!("it is refused"))?;
     for p in program.code.iter() {
         print!(rt; "{} ", p.word)?;
     }
@@ -137,21 +114,17 @@ fn show_words(rt: &HostRuntime, name: &str) -> anyhow::Result<()> {
     Ok(())
 }
 
-fn show_errors(rt: &HostRuntime) -> anyhow::Result<()> {
-    let text = fs::read_to_string(rt, "errors.txt")?;
+// What a reader of programs says of each case of a file.
+fn show_errors<F: Fn(Global, &str) -> Result<Program, AsmError>>(
+    rt: &HostRuntime,
+    name: &str,
+    read: F,
+) -> anyhow::Result<()>
+    requires { F.IsAlwaysCallable read }
+{
+    let text = fs::read_to_string(rt, name)?;
     for case in text.as_str().split("---\n") {
-        match assemble(rt.alloc(), case) {
-            Ok(program) => println!(rt; "{} words", program.code.len())?,
-            Err(e) => println!(rt; "{e}")?,
-        }
-    }
-    Ok(())
-}
-
-fn show_hex_errors(rt: &HostRuntime) -> anyhow::Result<()> {
-    let text = fs::read_to_string(rt, "bad_hex.txt")?;
-    for case in text.as_str().split("---\n") {
-        match read_hex(rt.alloc(), case) {
+        match read(rt.alloc(), case) {
             Ok(program) => println!(rt; "{} words", program.code.len())?,
             Err(e) => println!(rt; "{e}")?,
         }
@@ -167,8 +140,8 @@ fn run(rt: &HostRuntime) -> anyhow::Result<()> {
     show_source(rt, "all.s")?;
     show_source(rt, "sections.s")?;
     show_source(rt, "wrap.s")?;
-    show_errors(rt)?;
-    show_hex_errors(rt)
+    show_errors(rt, "errors.txt", assemble)?;
+    show_errors(rt, "bad_hex.txt", read_hex)
 }
 
 fn main(rt: HostRuntime) -> anyhow::Result<()> {
