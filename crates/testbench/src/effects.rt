@@ -1,4 +1,9 @@
 // What requests and instructions do to the outside.
+ghost use Rattle.std.specs.Prelude.{◌≡◌, Some};
+ghost use Rattle.pins.specs.Outside.{ev_of};
+ghost use Rattle.pins.specs.PortWords.{request_of};
+ghost use Rattle.reference.specs.Machine.{events_of};
+
 use isa::devices::DEVICES;
 use isa::execute::{Outcome, perform};
 use pins::ports::Request;
@@ -7,7 +12,9 @@ use reference::memory::Memory;
 use reference::trace::Effect;
 
 // Reading data memory is no effect.
-pub fn effect_of(request: Request) -> Option<Effect> {
+pub fn effect_of(request: Request) -> Option<Effect>
+    ensures { events_of result ≡ ev_of (request_of (Some request)) }
+{
     match request {
         Request::Read { address } if address < DEVICES => None,
         Request::Read { address } => Some(Effect::Ask { address }),

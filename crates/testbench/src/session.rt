@@ -1,4 +1,9 @@
 // A core with the world around it, clock by clock.
+ghost use Rattle.std.specs.Prelude.{◌≡◌};
+ghost use Rattle.pins.specs.Outside.{ev_of};
+ghost use Rattle.pins.specs.PortWords.{request_of};
+ghost use Rattle.reference.specs.Machine.{events_of};
+
 use crate::effects::effect_of;
 use crate::failure::Failure;
 use pins::ports::{Inputs, Outputs, Retired};
@@ -31,7 +36,9 @@ impl Clock {
     }
 
     // The write or the read of a device that is asked, if any.
-    pub fn effect(&self) -> Option<Effect> {
+    pub fn effect(&self) -> Option<Effect>
+        ensures { events_of result ≡ ev_of (request_of self.now.outputs.request) }
+    {
         self.outputs.request.and_then(effect_of)
     }
 }
