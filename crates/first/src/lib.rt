@@ -13,16 +13,15 @@ ghost use Rattle.first.specs.Stands.{Stands};
 ghost use Rattle.first.specs.Parts.{Parts};
 
 use pins::ports::Inputs;
-use pins::{Clocked, Started};
+use pins::{CORE_WORDS, Clocked, Started};
 use state::Core;
-use words::LENT;
 
 // Makes the words a core that begins at `address`, to which nothing has happened yet; fewer than 65,536 are too few.
 pub fn start(address: u32, core: &mut [u32]) -> Started
     ensures post { StartedPost Stands address core.old core.new result }
     ensures parts { Parts }
 {
-    if core.len() < LENT {
+    if core.len() < CORE_WORDS {
         return Started::Few;
     }
     Core::start(address).save(core);

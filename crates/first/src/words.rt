@@ -6,12 +6,11 @@ ghost use Rattle.first.specs.Back.{stop_back, regs_back, fetch_back, load_back, 
 use crate::state::{Core, Fetch, Load, Lsu, Number, Open, OpenRequests, Store, StoreBuffer};
 use isa::execute::Stop;
 use isa::regs::Regs;
+use pins::CORE_WORDS;
 use rings::queue::Queue;
 use rings::ring::Ring;
 use std::array;
 
-// As few words as a core is lent.
-pub const LENT: usize = 65536;
 // What the first word of a first core is.
 const MARK: u32 = 0x4649_5253;
 
@@ -254,7 +253,7 @@ impl Core {
     pub fn load(w: &[u32]) -> Option<Core>
         ensures { result ≡ decode w.now }
     {
-        if w.len() < LENT || w[0] != MARK {
+        if w.len() < CORE_WORDS || w[0] != MARK {
             return None;
         }
         Some(Core::read(w))

@@ -1,5 +1,6 @@
 // A core in a loop of four instructions, with all code answered at once.
 use first::state::Core;
+use pins::CORE_WORDS;
 use pins::ports::Inputs;
 use std::alloc::{AllocError, Global};
 
@@ -16,7 +17,7 @@ pub struct Rig {
 
 impl Rig {
     pub fn new(heap: Global) -> Result<Rig, AllocError> {
-        let mut core = vec![in heap; 0u32; 65536]?;
+        let mut core = vec![in heap; 0u32; CORE_WORDS]?;
         let _ = ahead::start(0, &mut core);
         Ok(Rig {
             core,
@@ -50,7 +51,7 @@ impl Rig {
         for _ in 0..count {
             self.step(&mut core)?;
         }
-        if self.core.len() >= 65536 {
+        if self.core.len() >= CORE_WORDS {
             core.save(&mut self.core);
         }
         Some(())

@@ -7,13 +7,10 @@ ghost use Rattle.reference.specs.Machine.{events_of};
 use crate::effects::effect_of;
 use crate::failure::Failure;
 use pins::ports::{Inputs, Outputs, Retired};
-use pins::{Clocked, Started};
+use pins::{CORE_WORDS, Clocked, Started};
 use reference::trace::Effect;
 use sim::world::World;
 use std::alloc::Global;
-
-// The words of a core.
-pub const CORE_WORDS: usize = 65_536;
 
 #[derive(Drop)]
 pub struct Session {

@@ -1,8 +1,7 @@
 // Calls that the core refuses: every buffer is then as it was.
-use pins::{Clocked, Started};
+use pins::{CORE_WORDS, Clocked, Started};
 use std::alloc::{AllocError, Global};
 use testbench::failure::Failure;
-use testbench::session::CORE_WORDS;
 
 pub fn show(rt: &HostRuntime) -> Result<(), Failure> {
     let heap = rt.alloc();
