@@ -108,8 +108,8 @@ pub(crate) fn aligned(address: u32) -> Result<u32, Problem> {
 
 // How many words an instruction has.
 fn instruction_size(s: Statement) -> Result<usize, Fault> {
-    match Pseudo::from_name(s.name) {
-        Some(p) if p.takes_both(s)? => Ok(2),
+    match s.name.parse::<Pseudo>() {
+        Ok(p) if p.takes_both(s)? => Ok(2),
         _ => Ok(1),
     }
 }

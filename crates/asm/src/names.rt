@@ -1,9 +1,12 @@
 // Names of registers and instructions.
-ghost use Rattle.std.specs.Prelude.{◌≡◌, [], slice_index_or};
+ghost use Rattle.std.specs.Prelude.{◌≡◌, [], slice_index_or, IfErr};
 ghost use Rattle.asm.specs.Names.{names};
+ghost use Rattle.asm.specs.declared.error.Problem.TheVariants.{UnknownInstruction};
 
+use crate::error::Problem;
 use isa::instr::{AluOp, Cond, Instr, MulOp};
 use isa::reg::Reg;
+use std::str::FromStr;
 
 // The register that is always 0, and the one that holds the return address.
 pub const ZERO: Reg = Reg { number: 0 };
@@ -102,11 +105,24 @@ static MNEMONICS: [(&str, Mnemonic); 36] = [
 ];
 
 // What a name means, by a table.
-pub(crate) fn lookup<T: Copy>(table: &[(&str, T)], name: &str) -> Option<T> {
+pub(crate) fn lookup<T: Copy>(table: &[(&str, T)], name: &str) -> Result<T, Problem>
+    ensures { IfErr result (λ p. p ≡ UnknownInstruction) }
+{
     table
         .iter()
         .find(|(known, _)| *known == name)
         .map(|(_, meaning)| *meaning)
+        .ok_or(Problem::UnknownInstruction)
+}
+
+impl FromStr for Mnemonic {
+    type Err = Problem;
+
+    ghost from_str_gives = { λ _ r. IfErr r (λ p. p ≡ UnknownInstruction) };
+
+    fn from_str(name: &str) -> Result<Mnemonic, Problem> {
+        lookup(&MNEMONICS, name)
+    }
 }
 
 impl From<Instr> for Mnemonic {
@@ -128,10 +144,6 @@ impl From<Instr> for Mnemonic {
 }
 
 impl Mnemonic {
-    pub fn from_name(name: &str) -> Option<Mnemonic> {
-        lookup(&MNEMONICS, name)
-    }
-
     // None for what is no instruction: an immediate's subtraction.
     pub fn name(self) -> Option<&'static str> {
         MNEMONICS

@@ -62,10 +62,10 @@ impl Output {
             self.first.get_or_insert(address);
             self.code.insert(address, word)?
         };
-        match old {
-            Some(_) => Err(Problem::PlacedTwice(address)),
-            None => Ok(()),
+        if old.is_some() {
+            return Err(Problem::PlacedTwice(address));
         }
+        Ok(())
     }
 
     fn set_start(&mut self, located: Located) -> Result<(), Fault> {
@@ -111,11 +111,11 @@ impl Located<'_, '_> {
         if name.starts_with('.') {
             return Err(Fault::name(Problem::UnknownDirective));
         }
-        if let Some(m) = Mnemonic::from_name(name) {
+        if let Ok(m) = name.parse::<Mnemonic>() {
             self.expect_code()?;
             return Ok(Words::one(self.instruction(m)?));
         }
-        let p = Pseudo::from_name(name).ok_or(Problem::UnknownInstruction)?;
+        let p = name.parse::<Pseudo>()?;
         self.expect_code()?;
         self.pseudo_words(p)
     }

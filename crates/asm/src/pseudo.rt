@@ -1,11 +1,12 @@
 // Names that stand for other instructions.
-ghost use Rattle.std.specs.Prelude.{◌≡◌, IfOk, Some, None};
+ghost use Rattle.std.specs.Prelude.{◌≡◌, IfOk, IfErr, Some, None};
 ghost use Rattle.isa.specs.declared.instr.AluOp.TheVariants.{Add};
 ghost use Rattle.isa.specs.declared.instr.Instr.TheVariants.{AluImm};
 ghost use Rattle.isa.specs.Decoding.{decodes};
 ghost use Rattle.asm.specs.Constants.{Loads};
+ghost use Rattle.asm.specs.declared.error.Problem.TheVariants.{UnknownInstruction};
 
-use crate::error::Fault;
+use crate::error::{Fault, Problem};
 use crate::instruction::{branch, operation, word};
 use crate::names::{RA, ZERO, lookup};
 use crate::operands::Located;
@@ -13,6 +14,7 @@ use crate::symbols::{lower, upper};
 use crate::text::{Statement, is_number, number};
 use isa::instr::{AluOp, Cond, Instr};
 use isa::reg::Reg;
+use std::str::FromStr;
 
 #[derive(Clone, Copy)]
 pub enum Pseudo {
@@ -62,11 +64,17 @@ static PSEUDOS: [(&str, Pseudo); 24] = [
     ("bleu", Pseudo::Swapped(Cond::Geu)),
 ];
 
-impl Pseudo {
-    pub fn from_name(name: &str) -> Option<Pseudo> {
+impl FromStr for Pseudo {
+    type Err = Problem;
+
+    ghost from_str_gives = { λ _ r. IfErr r (λ p. p ≡ UnknownInstruction) };
+
+    fn from_str(name: &str) -> Result<Pseudo, Problem> {
         lookup(&PSEUDOS, name)
     }
+}
 
+impl Pseudo {
     // Whether it takes both halves of a constant: `la` does, and `li` unless one is enough and it is a number, known before any label.
     pub(crate) fn takes_both(self, s: Statement) -> Result<bool, Fault> {
         match self {

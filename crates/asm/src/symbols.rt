@@ -25,10 +25,10 @@ fn define_one<'a>(symbols: &mut Symbols<'a>, name: &'a str, address: u32) -> Res
     if !is_label(name) {
         return Err(Problem::BadLabel);
     }
-    match symbols.insert(name, address)? {
-        Some(_) => Err(Problem::LabelTwice),
-        None => Ok(()),
+    if symbols.insert(name, address)?.is_some() {
+        return Err(Problem::LabelTwice);
     }
+    Ok(())
 }
 
 // The value of an operand: a number, a label's address, or `%hi(label)` or `%lo(label)`.

@@ -33,6 +33,7 @@ fn compare(rt: &HostRuntime) -> anyhow::Result<()> {
 
 // Each word is listed, and what is listed gives the word again.
 fn round_trip(rt: &HostRuntime, code: &[Placed]) -> anyhow::Result<()> {
+    // Counted in a loop, as memory may run out at each word: `filter` can't pass that on.
     let mut same = 0u64;
     for placed in code {
         if again(rt.alloc(), *placed)? {
@@ -59,6 +60,7 @@ const OPCODES: [u32; 9] = [0x37, 0x17, 0x6f, 0x67, 0x63, 0x03, 0x23, 0x13, 0x33]
 
 // Words of a generator: what decodes is encoded to the same word, and every hundredth comes back from its listing.
 fn sweep(rt: &HostRuntime) -> anyhow::Result<()> {
+    // Counted in a loop for the same reason.
     let mut seed = 1u32;
     let mut instructions = 0u32;
     let mut wrong = 0u32;
