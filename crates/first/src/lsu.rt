@@ -1,5 +1,5 @@
 // The load-store unit: open requests in order, the load at work, and the stores that wait.
-ghost use Rattle.std.specs.Prelude.{◌≡◌, ℕ, ◌<◌, ◌≤◌};
+ghost use Rattle.std.specs.Prelude.{◌≡◌};
 ghost use Rattle.first.specs.LsuRules.{lsu_start, load_answered, lsu_take, lsu_ask, lsu_room, drains, lsu_drain, drain_request, write_of};
 
 use crate::state::{Load, Lsu, Open, Store};

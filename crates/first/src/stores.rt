@@ -1,5 +1,5 @@
 // What a load finds among the stores that are done and wait for the request port.
-ghost use Rattle.std.specs.Prelude.{◌≡◌, ℕ, ◌<◌, ◌≤◌};
+ghost use Rattle.std.specs.Prelude.{◌≡◌};
 ghost use Rattle.first.specs.StoreRules.{here, newest, forwarded};
 
 use crate::state::StoreBuffer;

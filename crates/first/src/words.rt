@@ -1,6 +1,6 @@
 // The core in its lent words: read from them, and written back.
 ghost use Rattle.std.specs.Prelude.{◌≡◌, ℕ, ◌+◌, ◌<◌, ◌≤◌, ◌++◌, List, [], ◌∷◌, length, drop, ⊤};
-ghost use Rattle.first.specs.Layout.{word, stop_of, regs_of, fetch_of, load_of, open_of, requests_of, store_of, stores_of, core_of, decode, stop_tag, head_words, fetch_words, load_words, open_tag, requests_words, stores_words, core_words, Shaped};
+ghost use Rattle.first.specs.Layout.{word, stop_of, regs_of, fetch_of, load_of, open_of, requests_of, store_of, stores_of, core_of, decode, stop_tag, fetch_words, load_words, open_tag, requests_words, stores_words, core_words, Shaped};
 ghost use Rattle.first.specs.Back.{stop_back, regs_back, fetch_back, load_back, requests_back, stores_back};
 
 use crate::state::{Core, Fetch, Load, Lsu, Number, Open, OpenRequests, Store, StoreBuffer};

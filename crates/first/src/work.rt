@@ -1,6 +1,6 @@
 // The instruction at work: what it does in a clock is decided from the state, and then done.
-ghost use Rattle.std.specs.Prelude.{◌≡◌, ℕ, ◌<◌, ◌≤◌, if◌then◌else◌};
-ghost use Rattle.first.specs.WorkRules.{core_start, no_stores, ask_device, forward_or_ask, load_action, outcome_action, word_action, halted, action, retire, act, nothing, retired, effect};
+ghost use Rattle.std.specs.Prelude.{◌≡◌, if◌then◌else◌};
+ghost use Rattle.first.specs.WorkRules.{core_start, no_stores, ask_device, forward_or_ask, load_action, outcome_action, action, retire, act, nothing, retired, effect};
 ghost use Rattle.first.specs.declared.state.Action.TheVariants.{Wait, Write};
 ghost use Rattle.isa.specs.Words.{add};
 ghost use Rattle.first.specs.Step.{next, outputs};
