@@ -1,6 +1,5 @@
 // The state of a core with a window, but for its tables; and the machine's rules on it.
 ghost use Rattle.std.specs.Prelude.{◌≡◌};
-ghost use Rattle.window.specs.Entries.{with_word, with_left, with_right, with_loaded};
 ghost use Rattle.window.specs.Machine.{executed, forwarded, device_answered};
 ghost use Rattle.window.specs.Datapaths.{datapath_start, left_for, right_for, outcome_for, forward_by, forward_for, ruled, code_for, code_taken, data_for, data_taken, next_pc_of, redirect_to, redirected, wanted};
 
@@ -25,48 +24,12 @@ pub struct Datapath {
 }
 
 impl Entry {
-    fn with_word(self, x: u32) -> Entry
-        ensures { result ≡ with_word self x }
-    {
-        let mut e = self;
-        e.learn_word(x);
-        e
-    }
-
-    fn with_left(self, x: u32) -> Entry
-        ensures { result ≡ with_left self x }
-    {
-        let mut e = self;
-        e.learn_left(x);
-        e
-    }
-
-    fn with_right(self, x: u32) -> Entry
-        ensures { result ≡ with_right self x }
-    {
-        let mut e = self;
-        e.learn_right(x);
-        e
-    }
-
-    fn with_loaded(self, x: u32) -> Entry
-        ensures { result ≡ with_loaded self x }
-    {
-        let mut e = self;
-        e.learn_loaded(x);
-        e
-    }
-
     // With its outcome, if its word and its operands are there.
     fn executed(self) -> Option<Entry>
         ensures { result ≡ executed self }
     {
-        let word = self.word?;
-        let x = self.left?;
-        let y = self.right?;
-        let mut e = self;
-        e.learn_outcome(work(self.pc, word, x, y));
-        Some(e)
+        let outcome = work(self.pc, self.word?, self.left?, self.right?);
+        Some(self.with_outcome(outcome))
     }
 
     fn outcome_for(self) -> Option<Entry>
@@ -255,10 +218,8 @@ impl Datapath {
     fn redirect_to(&mut self, n: u32, next: u32, e: Entry)
         ensures { self.new ≡ redirect_to self.old n next e }
     {
-        let mut d = e;
-        d.predict(next);
         let m = n.wrapping_add(1);
-        self.window.put(n, d);
+        self.window.put(n, e.with_predicted(next));
         self.window.cut(m);
         self.requests.flushed(m);
         self.fetches.flushed(m);
