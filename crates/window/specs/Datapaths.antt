@@ -1,8 +1,9 @@
 -- The state of a core with a window, in code: what its rules do, and what that is to the machine's.
-use Rattle.std.specs.Prelude.{◌≡◌, ℕ, ◌-◌, ◌/◌, ◌<◌, Some, None, Option}
+use Rattle.std.specs.Prelude.{◌≡◌, ℕ, ◌-◌, ◌/◌, ◌<◌, Some, None, Option, MatchOption}
 use Rattle.isa.specs.Words.{pick, add}
 use Rattle.isa.specs.Manual.{device}
 use Rattle.isa.specs.Registers.{no_regs}
+use Rattle.isa.specs.declared.reg.Reg.{Reg}
 use Rattle.isa.specs.declared.execute.Outcome.{Outcome}
 use Rattle.isa.specs.declared.execute.Outcome.TheVariants.{Write as Writes, Jump as Jumps, Load as Loads, Store as Stores, Halt as Halts}
 use Rattle.window.specs.declared.entry.Entry.{Entry}
@@ -27,6 +28,13 @@ datapath_start a = record { regs = no_regs; pc = a; stores = buffer_start; devic
 abbrev pub with_ring : Datapath → Ring → Datapath
 with_ring k w = record { regs = k.regs; pc = k.pc; stores = k.stores; device = k.device; window = w; requests = k.requests; fetches = k.fetches }
 
+-- an operand that is not known yet, by the register that the word names, if there is a word
+abbrev pub named : Option Reg → Option ℕ
+named r = given r None (λ g. Some g.number)
+
+abbrev pub operand_for : Datapath → ℕ → Option ℕ → Option ℕ → Option ℕ
+operand_for k n known r = given known (given r None (λ g. operand k.window k.regs.values g n)) (λ _. None)
+
 -- what the n-th instruction, which is e, learns by each rule
 abbrev pub left_for : Datapath → ℕ → Entry → Option Entry
 left_for k n e = given e.left (given e.word None (λ w. given (operand k.window k.regs.values (left_register w) n) None (λ x. Some (with_left e x)))) (λ _. None)
@@ -50,6 +58,10 @@ forward_for k n e = given e.loaded (given e.outcome None (forward_by k n e)) (λ
 -- a rule by which the n-th learns
 abbrev pub ruled : (Datapath → ℕ → Entry → Option Entry) → Datapath → ℕ → Datapath
 ruled f k n = with_ring k (given (entry_at k.window n) k.window (λ e. given (f k n e) k.window (put_at k.window n)))
+
+-- the n-th has learned what a rule gives it, if that is something
+abbrev pub Learns : (Entry → Option Entry → Type 0) → Datapath → ℕ → Datapath → Type 0
+Learns Gives k n j = MatchOption (entry_at k.window n) (j ≡ k) (λ e. (o : Option Entry) × Gives e o × (j ≡ with_ring k (given o k.window (put_at k.window n))))
 
 abbrev pub with_wants : Datapath → Fetches → Datapath
 with_wants k q = record { regs = k.regs; pc = k.pc; stores = k.stores; device = k.device; window = k.window; requests = k.requests; fetches = q }

@@ -62,6 +62,11 @@ with_register k d x = record { regs = record { values = put k.regs.values d x };
 abbrev pub written : Datapath → Entry → ℕ → ℕ → ℕ → Datapath
 written k e d x b = moved_on (with_register k d x) e.predicted b
 
+abbrev pub device_value : DeviceRead → Option ℕ
+device_value Idle = None
+device_value (Waiting b) = None
+device_value (Answered b x) = Some x
+
 abbrev pub device_retired : Datapath → Entry → ℕ → DeviceRead → Datapath
 device_retired k e d Idle = k
 device_retired k e d (Waiting b) = k

@@ -2,6 +2,7 @@
 use Rattle.std.specs.Prelude.{◌≡◌, ℕ, zero, suc, ◌+◌, ◌-◌, ◌/◌, ◌%◌, ◌<◌, ◌≤◌, Bool, cond, ◌&&◌, List, [], ◌∷◌, ◌++◌, length, take, replicate, Some, None, Option, ◌==◌, nat_lt, slice_index_or, slice_set}
 use Rattle.isa.specs.Words.{nth, put}
 use Rattle.isa.specs.Registers.{value_in}
+use Rattle.isa.specs.declared.execute.Outcome.{Outcome}
 use Rattle.pins.specs.PortWords.{optional}
 use Rattle.window.specs.declared.entry.Entry.{Entry}
 use Rattle.window.specs.declared.entry.Store.{Store}
@@ -45,6 +46,9 @@ cut_to w n = cond (nat_lt n w.count) (record { begin = w.begin; count = n; at = 
 
 abbrev pub entry_at : Ring → ℕ → Option Entry
 entry_at w n = cond (nat_lt n w.count) (Some (entry w n)) None
+
+abbrev pub outcome_at : Ring → ℕ → Option Outcome
+outcome_at w n = given (entry_at w n) None (λ e. e.outcome)
 
 abbrev pub put_at : Ring → ℕ → Entry → Ring
 put_at w n e = cond (nat_lt n w.count) (with_at w (slice_set w.at (slot w n) e)) w

@@ -1,7 +1,7 @@
 // The state of a core with a window, but for its tables; and the machine's rules on it.
 ghost use Rattle.std.specs.Prelude.{◌≡◌};
 ghost use Rattle.window.specs.Machine.{executed, forwarded, device_answered};
-ghost use Rattle.window.specs.Datapaths.{datapath_start, left_for, right_for, outcome_for, forward_by, forward_for, ruled, code_for, code_taken, data_for, data_taken, next_pc_of, redirect_to, redirected, wanted};
+ghost use Rattle.window.specs.Datapaths.{datapath_start, named, operand_for, left_for, right_for, outcome_for, forward_by, forward_for, ruled, Learns, code_for, code_taken, data_for, data_taken, next_pc_of, redirect_to, redirected, wanted};
 
 use crate::entry::{DeviceRead, Entry, Number, Source, Tag};
 use crate::known::{left_register, right_register, work};
@@ -10,6 +10,7 @@ use crate::ring::Ring;
 use crate::stores::StoreBuffer;
 use isa::devices::DEVICES;
 use isa::execute::Outcome;
+use isa::reg::Reg;
 use isa::regs::Regs;
 
 #[derive(Clone, Copy)]
@@ -35,7 +36,7 @@ impl Entry {
     fn outcome_for(self) -> Option<Entry>
         ensures { result ≡ outcome_for self }
     {
-        if let Some(_) = self.outcome {
+        if self.outcome.is_some() {
             return None;
         }
         self.executed()
@@ -78,26 +79,28 @@ impl Datapath {
         }
     }
 
+    // An operand of the n-th instruction, by the register that its word names: if it is not known yet, and can be.
+    fn operand_for(&self, n: u32, known: Option<u32>, register: Option<Reg>) -> Option<u32>
+        ensures { result ≡ operand_for self.now n known (named register) }
+    {
+        if known.is_some() {
+            return None;
+        }
+        self.window.operand(&self.regs, register?, n)
+    }
+
     // What the n-th instruction, which is e, learns by each rule.
     fn left_for(&self, n: u32, e: Entry) -> Option<Entry>
         ensures { result ≡ left_for self.now n e }
     {
-        if let Some(_) = e.left {
-            return None;
-        }
-        let word = e.word?;
-        let x = self.window.operand(&self.regs, left_register(word), n)?;
+        let x = self.operand_for(n, e.left, e.word.map(left_register))?;
         Some(e.with_left(x))
     }
 
     fn right_for(&self, n: u32, e: Entry) -> Option<Entry>
         ensures { result ≡ right_for self.now n e }
     {
-        if let Some(_) = e.right {
-            return None;
-        }
-        let word = e.word?;
-        let x = self.window.operand(&self.regs, right_register(word), n)?;
+        let x = self.operand_for(n, e.right, e.word.map(right_register))?;
         Some(e.with_right(x))
     }
 
@@ -105,12 +108,8 @@ impl Datapath {
         ensures { result ≡ forward_by self.now n e outcome }
     {
         match outcome {
-            Outcome::Load { address, .. } => {
-                if address >= DEVICES {
-                    None
-                } else {
-                    e.forwarded(self.window.source(&self.stores, address / 4, n))
-                }
+            Outcome::Load { address, .. } if address < DEVICES => {
+                e.forwarded(self.window.source(&self.stores, address / 4, n))
             }
             _ => None,
         }
@@ -119,53 +118,46 @@ impl Datapath {
     fn forward_for(&self, n: u32, e: Entry) -> Option<Entry>
         ensures { result ≡ forward_for self.now n e }
     {
-        if let Some(_) = e.loaded {
+        if e.loaded.is_some() {
             return None;
         }
-        match e.outcome {
-            None => None,
-            Some(outcome) => self.forward_by(n, e, outcome),
+        self.forward_by(n, e, e.outcome?)
+    }
+
+    // The n-th instruction learns by a rule, if there is one.
+    fn learn<F: FnOnce(&Datapath, Entry) -> Option<Entry>>(&mut self, n: u32, rule: F)
+        requires { F.IsAlwaysCallable rule }
+        ensures { Learns (λ e o. (k : _) × (k.now ≡ self.old) × F.post rule k e o) self.old n self.new }
+    {
+        if let Some(e) = self.window.get(n)
+            && let Some(d) = rule(self, e)
+        {
+            self.window.put(n, d);
         }
     }
 
     pub fn read_left(&mut self, n: u32)
         ensures { self.new ≡ ruled left_for self.old n }
     {
-        if let Some(e) = self.window.get(n) {
-            if let Some(d) = self.left_for(n, e) {
-                self.window.put(n, d);
-            }
-        }
+        self.learn(n, |path, e| path.left_for(n, e));
     }
 
     pub fn read_right(&mut self, n: u32)
         ensures { self.new ≡ ruled right_for self.old n }
     {
-        if let Some(e) = self.window.get(n) {
-            if let Some(d) = self.right_for(n, e) {
-                self.window.put(n, d);
-            }
-        }
+        self.learn(n, |path, e| path.right_for(n, e));
     }
 
     pub fn execute(&mut self, n: u32)
         ensures { self.new ≡ ruled (λ _ _ e. outcome_for e) self.old n }
     {
-        if let Some(e) = self.window.get(n) {
-            if let Some(d) = e.outcome_for() {
-                self.window.put(n, d);
-            }
-        }
+        self.learn(n, |_, e| e.outcome_for());
     }
 
     pub fn forward(&mut self, n: u32)
         ensures { self.new ≡ ruled forward_for self.old n }
     {
-        if let Some(e) = self.window.get(n) {
-            if let Some(d) = self.forward_for(n, e) {
-                self.window.put(n, d);
-            }
-        }
+        self.learn(n, |path, e| path.forward_for(n, e));
     }
 
     // A word of code that came, for an instruction at work or for nobody.
@@ -173,9 +165,7 @@ impl Datapath {
         ensures { self.new ≡ code_for self.old x fetch }
     {
         if let Some(number) = fetch {
-            if let Some(e) = self.window.get(number.0) {
-                self.window.put(number.0, e.with_word(x));
-            }
+            self.learn(number.0, |_, e| Some(e.with_word(x)));
         }
     }
 
@@ -195,9 +185,7 @@ impl Datapath {
         match tag {
             Tag::Acknowledgment | Tag::Stale => {}
             Tag::Load(number) => {
-                if let Some(e) = self.window.get(number.0) {
-                    self.window.put(number.0, e.with_loaded(x));
-                }
+                self.learn(number.0, |_, e| Some(e.with_loaded(x)));
             }
             Tag::Device => {
                 self.device = self.device.answered(x);
@@ -237,10 +225,8 @@ impl Datapath {
     pub fn next_pc(&self) -> u32
         ensures { result ≡ next_pc_of self.now }
     {
-        match self.window.get(self.window.count.saturating_sub(1)) {
-            None => self.pc,
-            Some(e) => e.predicted,
-        }
+        let youngest = self.window.get(self.window.count.saturating_sub(1));
+        youngest.map_or(self.pc, |e| e.predicted)
     }
 
     // The next word of code is wanted, and `predicted` to be followed by another.

@@ -11,19 +11,7 @@ use pins::ports::Request;
 fn memory_at(address: u32, source: Source) -> Option<u32>
     ensures { result ≡ memory_at address source }
 {
-    match source {
-        Source::Memory => Some(address),
-        _ => None,
-    }
-}
-
-fn read_of(address: Option<u32>) -> Option<Request>
-    ensures { result ≡ read_of address }
-{
-    match address {
-        None => None,
-        Some(address) => Some(Request::Read { address }),
-    }
+    matches!(source, Source::Memory).then_some(address)
 }
 
 impl Datapath {
@@ -32,12 +20,8 @@ impl Datapath {
         ensures { result ≡ load_at self.now n outcome }
     {
         match outcome {
-            Outcome::Load { address, .. } => {
-                if address >= DEVICES {
-                    None
-                } else {
-                    memory_at(address, self.window.source(&self.stores, address / 4, n))
-                }
+            Outcome::Load { address, .. } if address < DEVICES => {
+                memory_at(address, self.window.source(&self.stores, address / 4, n))
             }
             _ => None,
         }
@@ -46,9 +30,7 @@ impl Datapath {
     fn load_address(&self, n: u32) -> Option<u32>
         ensures { result ≡ load_address self.now n }
     {
-        let e = self.window.get(n)?;
-        let outcome = e.outcome?;
-        self.load_at(n, outcome)
+        self.load_at(n, self.window.outcome(n)?)
     }
 
     // The load of the n-th instruction is asked for, if its word is in memory.
@@ -56,34 +38,23 @@ impl Datapath {
         ensures core { self.new ≡ load_asked self.old n }
         ensures asks { result ≡ read_of (load_address self.old n) }
     {
-        let address = self.load_address(n);
-        if let Some(_) = address {
-            self.requests.push(Tag::Load(Number(n)));
-        }
-        read_of(address)
+        let address = self.load_address(n)?;
+        self.requests.push(Tag::Load(Number(n)));
+        Some(Request::Read { address })
     }
 
     // No store waits, and no device is read.
     fn free(&self) -> bool
         ensures { result ≡ free self.now }
     {
-        match self.device {
-            DeviceRead::Idle => self.stores.count == 0,
-            _ => false,
-        }
+        self.device == DeviceRead::Idle && self.stores.count == 0
     }
 
     fn device_at(&self, outcome: Outcome) -> Option<u32>
         ensures { result ≡ device_at self.now outcome }
     {
         match outcome {
-            Outcome::Load { address, .. } => {
-                if address >= DEVICES && self.free() {
-                    Some(address)
-                } else {
-                    None
-                }
-            }
+            Outcome::Load { address, .. } if address >= DEVICES && self.free() => Some(address),
             _ => None,
         }
     }
@@ -91,9 +62,7 @@ impl Datapath {
     fn device_address(&self) -> Option<u32>
         ensures { result ≡ device_address self.now }
     {
-        let e = self.window.get(0)?;
-        let outcome = e.outcome?;
-        self.device_at(outcome)
+        self.device_at(self.window.outcome(0)?)
     }
 
     // The device that the oldest reads is asked.
@@ -101,19 +70,17 @@ impl Datapath {
         ensures core { self.new ≡ device_asked self.old }
         ensures asks { result ≡ read_of (device_address self.old) }
     {
-        let asked = self.device_address();
-        if let Some(address) = asked {
-            self.device = DeviceRead::Waiting { address };
-            self.requests.push(Tag::Device);
-        }
-        read_of(asked)
+        let address = self.device_address()?;
+        self.device = DeviceRead::Waiting { address };
+        self.requests.push(Tag::Device);
+        Some(Request::Read { address })
     }
 
     fn halt_at(&self, outcome: Outcome) -> Option<Stop>
         ensures { result ≡ halt_at self.now outcome }
     {
         match outcome {
-            Outcome::Halt(stop) => { if self.free() { Some(stop) } else { None } }
+            Outcome::Halt(stop) if self.free() => Some(stop),
             _ => None,
         }
     }
@@ -122,8 +89,6 @@ impl Datapath {
     pub fn halted(&self) -> Option<Stop>
         ensures { result ≡ halts self.now }
     {
-        let e = self.window.get(0)?;
-        let outcome = e.outcome?;
-        self.halt_at(outcome)
+        self.halt_at(self.window.outcome(0)?)
     }
 }

@@ -1,9 +1,10 @@
 // The window as a ring: the instructions at work, oldest first from `begin`, around an array.
 ghost use Rattle.std.specs.Prelude.{◌≡◌, ℕ, ◌<◌, nat_le};
-ghost use Rattle.window.specs.Rings.{size, slot, entry, ring_start, pushed, popped, cut_to, put_at, entry_at, writer_below, operand, store_below, source_in};
+ghost use Rattle.window.specs.Rings.{size, slot, entry, ring_start, pushed, popped, cut_to, put_at, entry_at, outcome_at, writer_below, operand, store_below, source_in};
 
 use crate::entry::{Entry, Source};
 use crate::stores::StoreBuffer;
+use isa::execute::Outcome;
 use isa::reg::Reg;
 use isa::regs::Regs;
 
@@ -88,6 +89,13 @@ impl Ring {
         }
     }
 
+    // The n-th instruction's outcome, once it has one.
+    pub(crate) fn outcome(&self, n: u32) -> Option<Outcome>
+        ensures { result ≡ outcome_at self.now n }
+    {
+        self.get(n)?.outcome
+    }
+
     pub fn put(&mut self, n: u32, e: Entry)
         ensures { self.new ≡ put_at self.old n e }
     {
@@ -146,9 +154,7 @@ impl Ring {
     pub fn source(&self, stores: &StoreBuffer, number: u32, n: u32) -> Source
         ensures { result ≡ source_in self.now stores.now number n }
     {
-        match self.decided(number, n) {
-            None => stores.source(number),
-            Some(source) => source,
-        }
+        self.decided(number, n)
+            .unwrap_or_else(|| stores.source(number))
     }
 }
