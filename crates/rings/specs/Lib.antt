@@ -1,0 +1,3 @@
+-- A ring and a queue of fixed sizes: what their methods make of them.
+pub mod RingRules
+pub mod QueueRules
