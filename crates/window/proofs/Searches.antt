@@ -1,18 +1,22 @@
 -- One step of a search from the newest place down.
-use Rattle.std.proofs.Common.{◌≡◌, ℕ, zero, suc, ◌-◌, ◌<◌, Bool, true, false, cond, Some, None, Option, sym, refl, ap, ◌∙◌, sub-one, arith}
+use Rattle.std.proofs.Common.{◌≡◌, ℕ, zero, suc, ◌-◌, ◌<◌, List, get_or, slice_get, Bool, true, false, cond, Some, None, Option, sym, refl, ap, ◌∙◌, sub-one, arith}
+use Rattle.std.proofs.lemmas.Option.{get_or_from_slice_get}
+use Rattle.rings.specs.RingRules.{slot}
 use Rattle.window.specs.declared.entry.Entry.{Entry}
 use Rattle.window.specs.declared.entry.Source.{Source}
 use Rattle.window.specs.declared.entry.Source.TheVariants.{Forwarded}
-use Rattle.window.specs.declared.ring.Ring.{Ring}
-use Rattle.window.specs.declared.stores.StoreBuffer.{StoreBuffer}
 use Rattle.window.specs.Entries.{given}
 use Rattle.window.specs.Scans.{hits, decides}
-use Rattle.window.specs.Rings.{entry, writer_below, store_below, buffer_entry, matches, row_below}
+use Rattle.window.specs.Rings.{no_entry, Window, StoreBuffer, entry, writer_below, store_below, buffer_entry, matches, row_below}
+
+-- what was read from a place
+pub read : {A : Type 0} (xs : List A) (i : ℕ) (x d : A) → slice_get xs i ≡ Some x → x ≡ get_or xs i d
+read xs i x d e = sym (get_or_from_slice_get xs i x d e)
 
 -- the newest writer
-module _ (w : Ring) (r k : ℕ) (h : 0 < k) (e : Entry) (ee : e ≡ entry w (k - 1)) (b : Bool) (eb : b ≡ hits r e) where
+module _ (w : Window) (r k : ℕ) (h : 0 < k) (e : Entry) (ee : slice_get w.at (slot w (k - 1)) ≡ Some e) (b : Bool) (eb : b ≡ hits r e) where
   writer_step : writer_below w r k ≡ cond b (Some (k - 1)) (writer_below w r (k - 1))
-  writer_step = by k h ∙ ap (λ z. cond z (Some (k - 1)) (writer_below w r (k - 1))) (sym (eb ∙ ap (hits r) ee))
+  writer_step = by k h ∙ ap (λ z. cond z (Some (k - 1)) (writer_below w r (k - 1))) (sym (eb ∙ ap (hits r) (read w.at _ e no_entry ee)))
     where
       by : (k : ℕ) → 0 < k → writer_below w r k ≡ cond (hits r (entry w (k - 1))) (Some (k - 1)) (writer_below w r (k - 1))
       by zero h = absurd (omega arith)
@@ -25,9 +29,9 @@ module _ (w : Ring) (r k : ℕ) (h : 0 < k) (e : Entry) (ee : e ≡ entry w (k -
   writer_here q = writer_step ∙ ap (λ z. cond z (Some (k - 1)) (writer_below w r (k - 1))) q
 
 -- the newest that decides where a word is
-module _ (w : Ring) (i k : ℕ) (h : 0 < k) (e : Entry) (ee : e ≡ entry w (k - 1)) (o : Option Source) (eo : o ≡ decides i e) where
+module _ (w : Window) (i k : ℕ) (h : 0 < k) (e : Entry) (ee : slice_get w.at (slot w (k - 1)) ≡ Some e) (o : Option Source) (eo : o ≡ decides i e) where
   store_step : store_below w i k ≡ given o (store_below w i (k - 1)) Some
-  store_step = by k h ∙ ap (λ z. given z (store_below w i (k - 1)) Some) (sym (eo ∙ ap (decides i) ee))
+  store_step = by k h ∙ ap (λ z. given z (store_below w i (k - 1)) Some) (sym (eo ∙ ap (decides i) (read w.at _ e no_entry ee)))
     where
       by : (k : ℕ) → 0 < k → store_below w i k ≡ given (decides i (entry w (k - 1))) (store_below w i (k - 1)) Some
       by zero h = absurd (omega arith)

@@ -1,12 +1,12 @@
 // The state of a core with a window, but for its tables; and the machine's rules on it.
 ghost use Rattle.std.specs.Prelude.{◌≡◌};
 ghost use Rattle.window.specs.Machine.{executed, forwarded, device_answered};
-ghost use Rattle.window.specs.Datapaths.{datapath_start, named, operand_for, left_for, right_for, outcome_for, forward_by, forward_for, ruled, Learns, code_for, code_taken, data_for, data_taken, next_pc_of, redirect_to, redirected, wanted};
+ghost use Rattle.window.specs.Datapaths.{datapath_start, named, operand_for, left_for, right_for, outcome_for, forward_by, forward_for, ruled, Learns, code_for, code_taken, data_for, data_taken, next_pc_of, flushed, redirect_to, redirected, wanted};
 
-use crate::entry::{DeviceRead, Entry, Number, Source, Tag};
+use crate::entry::{DeviceRead, Entry, Number, Source, Store, Tag};
 use crate::known::{left_register, right_register, work};
 use crate::queues::{Fetches, Requests};
-use crate::ring::Ring;
+use crate::ring::{Window, operand, source};
 use crate::stores::StoreBuffer;
 use isa::devices::DEVICES;
 use isa::execute::Outcome;
@@ -19,7 +19,7 @@ pub struct Datapath {
     pub pc: u32,
     pub stores: StoreBuffer,
     pub device: DeviceRead,
-    pub window: Ring,
+    pub window: Window,
     pub requests: Requests,
     pub fetches: Fetches,
 }
@@ -71,11 +71,14 @@ impl Datapath {
         Datapath {
             regs: Regs::new(),
             pc: address,
-            stores: StoreBuffer::start(),
+            stores: StoreBuffer::new(Store {
+                address: 0,
+                value: 0,
+            }),
             device: DeviceRead::Idle,
-            window: Ring::start(),
-            requests: Requests::start(),
-            fetches: Fetches::start(),
+            window: Window::new(Entry::new(0, 0)),
+            requests: Requests::new(Tag::Acknowledgment),
+            fetches: Fetches::new(None),
         }
     }
 
@@ -86,7 +89,7 @@ impl Datapath {
         if known.is_some() {
             return None;
         }
-        self.window.operand(&self.regs, register?, n)
+        operand(&self.window, &self.regs, register?, n)
     }
 
     // What the n-th instruction, which is e, learns by each rule.
@@ -109,7 +112,7 @@ impl Datapath {
     {
         match outcome {
             Outcome::Load { address, .. } if address < DEVICES => {
-                e.forwarded(self.window.source(&self.stores, address / 4, n))
+                e.forwarded(source(&self.window, &self.stores, address / 4, n))
             }
             _ => None,
         }
@@ -173,7 +176,7 @@ impl Datapath {
         ensures { self.new ≡ code_taken self.old x }
     {
         if let Some(fetch) = self.fetches.oldest() {
-            self.fetches.pop();
+            self.fetches.shift(None);
             self.code_for(x, fetch);
         }
     }
@@ -197,9 +200,20 @@ impl Datapath {
         ensures { self.new ≡ data_taken self.old x }
     {
         if let Some(tag) = self.requests.oldest() {
-            self.requests.pop();
+            self.requests.shift(Tag::Acknowledgment);
             self.data_for(x, tag);
         }
+    }
+
+    // The instructions from n on are flushed.
+    pub(crate) fn flush(&mut self, n: u32)
+        ensures { self.new ≡ flushed self.old n }
+    {
+        self.window.cut(n);
+        self.requests = self.requests.map(|tag| tag.kept(n));
+        self.fetches = self
+            .fetches
+            .map(|fetch| fetch.and_then(|number| number.kept(n)));
     }
 
     // The n-th instruction, which is e, is predicted to be followed by `next`: what is younger is flushed.
@@ -208,9 +222,7 @@ impl Datapath {
     {
         let m = n.wrapping_add(1);
         self.window.put(n, e.with_predicted(next));
-        self.window.cut(m);
-        self.requests.flushed(m);
-        self.fetches.flushed(m);
+        self.flush(m);
     }
 
     pub fn redirect(&mut self, n: u32, next: u32)
@@ -235,7 +247,11 @@ impl Datapath {
     {
         let number = Number(self.window.count);
         let pc = self.next_pc();
-        self.window.push(Entry::new(pc, predicted));
-        self.fetches.push(number);
+        if !self.window.full() {
+            self.window.push(Entry::new(pc, predicted));
+        }
+        if !self.fetches.full() {
+            self.fetches.push(Some(number));
+        }
     }
 }

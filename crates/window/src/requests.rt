@@ -1,9 +1,13 @@
 // Requests for loads and devices, and whether the core has stopped: the machine's rules on the datapath.
 ghost use Rattle.std.specs.Prelude.{◌≡◌};
+ghost use Rattle.window.specs.Rings.{outcome_at};
+ghost use Rattle.window.specs.Queues.{queue_pushed};
+ghost use Rattle.window.specs.Datapaths.{with_tags};
 ghost use Rattle.window.specs.Asking.{memory_at, load_at, load_address, load_asked, read_of, free, device_at, device_address, device_asked, halt_at, halts};
 
 use crate::datapath::Datapath;
 use crate::entry::{DeviceRead, Number, Source, Tag};
+use crate::ring::source;
 use isa::devices::DEVICES;
 use isa::execute::{Outcome, Stop};
 use pins::ports::Request;
@@ -15,13 +19,29 @@ fn memory_at(address: u32, source: Source) -> Option<u32>
 }
 
 impl Datapath {
+    // One more open request; with four open none is added.
+    pub(crate) fn open(&mut self, tag: Tag)
+        ensures { self.new ≡ with_tags self.old (queue_pushed self.old.requests tag) }
+    {
+        if !self.requests.full() {
+            self.requests.push(tag);
+        }
+    }
+
+    // The n-th instruction's outcome, once it has one.
+    fn outcome(&self, n: u32) -> Option<Outcome>
+        ensures { result ≡ outcome_at self.now.window n }
+    {
+        self.window.get(n)?.outcome
+    }
+
     // The address that the n-th instruction's load can be asked for at, by its outcome.
     fn load_at(&self, n: u32, outcome: Outcome) -> Option<u32>
         ensures { result ≡ load_at self.now n outcome }
     {
         match outcome {
             Outcome::Load { address, .. } if address < DEVICES => {
-                memory_at(address, self.window.source(&self.stores, address / 4, n))
+                memory_at(address, source(&self.window, &self.stores, address / 4, n))
             }
             _ => None,
         }
@@ -30,7 +50,7 @@ impl Datapath {
     fn load_address(&self, n: u32) -> Option<u32>
         ensures { result ≡ load_address self.now n }
     {
-        self.load_at(n, self.window.outcome(n)?)
+        self.load_at(n, self.outcome(n)?)
     }
 
     // The load of the n-th instruction is asked for, if its word is in memory.
@@ -39,7 +59,7 @@ impl Datapath {
         ensures asks { result ≡ read_of (load_address self.old n) }
     {
         let address = self.load_address(n)?;
-        self.requests.push(Tag::Load(Number(n)));
+        self.open(Tag::Load(Number(n)));
         Some(Request::Read { address })
     }
 
@@ -62,7 +82,7 @@ impl Datapath {
     fn device_address(&self) -> Option<u32>
         ensures { result ≡ device_address self.now }
     {
-        self.device_at(self.window.outcome(0)?)
+        self.device_at(self.outcome(0)?)
     }
 
     // The device that the oldest reads is asked.
@@ -72,7 +92,7 @@ impl Datapath {
     {
         let address = self.device_address()?;
         self.device = DeviceRead::Waiting { address };
-        self.requests.push(Tag::Device);
+        self.open(Tag::Device);
         Some(Request::Read { address })
     }
 
@@ -89,6 +109,6 @@ impl Datapath {
     pub fn halted(&self) -> Option<Stop>
         ensures { result ≡ halts self.now }
     {
-        self.halt_at(self.window.outcome(0)?)
+        self.halt_at(self.outcome(0)?)
     }
 }

@@ -1,9 +1,9 @@
 // Retiring the oldest instruction, and requests: the machine's rules on the datapath.
 ghost use Rattle.std.specs.Prelude.{◌≡◌};
-ghost use Rattle.window.specs.Retiring.{moved_on, write_done, plain_done, written, device_value, load_retired, load_done, store_retired, store_done, outcome_retired, outcome_done, retired, done, drained, drain_request};
+ghost use Rattle.window.specs.Retiring.{numbers_popped, moved_on, write_done, plain_done, written, device_value, load_retired, load_done, store_retired, store_done, outcome_retired, outcome_done, retired, done, drained, drain_request};
 
 use crate::datapath::Datapath;
-use crate::entry::{DeviceRead, Entry, Store, Tag};
+use crate::entry::{DeviceRead, Entry, Number, Store, Tag};
 use isa::execute::Outcome;
 use isa::reg::Reg;
 use pins::ports::{Request, Retired};
@@ -21,18 +21,25 @@ impl DeviceRead {
 }
 
 impl Datapath {
+    // The oldest leaves the window: in the queues each number is one less.
+    fn pop_numbers(&mut self)
+        ensures { self.new ≡ numbers_popped self.old }
+    {
+        self.requests = self.requests.map(|tag| tag.popped());
+        self.fetches = self.fetches.map(|fetch| fetch.and_then(Number::popped));
+    }
+
     // It goes on at `next`: after a right prediction the younger ones stay, after a wrong one they are flushed.
     fn move_on(&mut self, predicted: u32, next: u32)
         ensures { self.new ≡ moved_on self.old predicted next }
     {
         if next == predicted {
-            self.window.pop();
-            self.requests.retired();
-            self.fetches.retired();
+            self.pop_numbers();
+            if self.window.count > 0 {
+                self.window.pop();
+            }
         } else {
-            self.window.cut(0);
-            self.requests.flushed(0);
-            self.fetches.flushed(0);
+            self.flush(0);
         }
         self.pc = next;
         self.device = DeviceRead::Idle;
@@ -120,7 +127,7 @@ impl Datapath {
         if self.stores.count > 0 {
             let store = self.stores.entry(0);
             self.stores.pop();
-            self.requests.push(Tag::Acknowledgment);
+            self.open(Tag::Acknowledgment);
             Some(Request::Write {
                 address: store.address,
                 value: store.value,

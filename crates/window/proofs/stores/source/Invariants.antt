@@ -1,9 +1,9 @@
 use Rattle.std.proofs.Common.{◌≡◌}
 use Rattle.window.specs.Rings.{row_below}
-use Rattle.window.proofs.stores.StoreBuffer.source.Given as goal
+use Rattle.window.proofs.stores.source.Given as goal
 
 abbrev pub invariant-search : goal.invariant-search
-invariant-search l = row_below l.self l.number l.self.count ≡ row_below l.self l.number l.n
+invariant-search l = row_below l.stores l.number l.stores.count ≡ row_below l.stores l.number l.n
 
 abbrev pub decreases-search : goal.decreases-search
 decreases-search l = l.n
