@@ -92,10 +92,18 @@ outcome_at w n = given (entry_at w n) None (λ e. e.outcome)
 abbrev pub items : Window → List Entry
 items w = listed no_entry w
 
--- from the newest before the n-th on: which may write the register
+-- the newest before the n-th for which f holds
+abbrev pub newest_below : (ℕ → Bool) → ℕ → Option ℕ
+newest_below f zero = None
+newest_below f (suc n) = cond (f n) (Some n) (newest_below f n)
+
+-- what a test answers is what f computes
+abbrev pub Computes : (ℕ → Bool → Type 0) → (ℕ → Bool) → Type 0
+Computes Answers f = (k : ℕ) (b : Bool) → Answers k b → b ≡ f k
+
+-- the newest before the n-th that may write the register
 abbrev pub writer_below : Window → ℕ → ℕ → Option ℕ
-writer_below w r zero = None
-writer_below w r (suc n) = cond (hits r (entry w n)) (Some n) (writer_below w r n)
+writer_below w r n = newest_below (λ k. hits r (entry w k)) n
 
 abbrev pub operand_by : Window → List ℕ → ℕ → Option ℕ → Option ℕ
 operand_by w gs r None = Some (value_in gs r)

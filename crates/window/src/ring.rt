@@ -1,6 +1,7 @@
 // The window: the instructions at work as a ring, oldest first.
-ghost use Rattle.std.specs.Prelude.{◌≡◌};
-ghost use Rattle.window.specs.Rings.{writer_below, operand, store_below, source_in};
+ghost use Rattle.std.specs.Prelude.{◌≡◌, ℕ, Bool};
+ghost use Rattle.window.specs.Scans.{decides};
+ghost use Rattle.window.specs.Rings.{entry, Computes, newest_below, writer_below, operand, store_below, source_in};
 
 use crate::entry::{Entry, Source};
 use crate::stores::{self, StoreBuffer};
@@ -13,20 +14,29 @@ pub const SIZE: usize = 16;
 
 pub type Window = Ring<Entry, SIZE>;
 
-// The newest instruction before the n-th that may write the register.
-fn writer(window: &Window, r: Reg, n: u32) -> Option<u32>
-    ensures { result ≡ writer_below window.now r.number n }
+// The newest before the n-th for which the test holds.
+pub(crate) fn newest<F: Fn(u32) -> bool>(n: u32, holds: F) -> Option<u32>
+    requires { F.IsAlwaysCallable holds }
+    ensures { (f : ℕ → Bool) → Computes (F.post holds) f → result ≡ newest_below f n }
 {
     let mut k = n;
+    // A loop with a label that yields the place: the project asks for the form here.
     'search: loop {
         if k == 0 {
             break 'search None;
         }
         k -= 1;
-        if window.entry(k).writes(r) {
+        if holds(k) {
             break 'search Some(k);
         }
     }
+}
+
+// The newest instruction before the n-th that may write the register.
+fn writer(window: &Window, r: Reg, n: u32) -> Option<u32>
+    ensures { result ≡ writer_below window.now r.number n }
+{
+    newest(n, |k| window.entry(k).writes(r))
 }
 
 // What the register holds for the n-th instruction: by the newest before it that writes it, or the register file. None: wait.
@@ -42,20 +52,19 @@ pub fn operand(window: &Window, regs: &Regs, r: Reg, n: u32) -> Option<u32>
     }
 }
 
+// What the n-th instruction says of where the word of data with this number is, if that is up to it.
+fn decides(window: &Window, number: u32, n: u32) -> Option<Source>
+    ensures { result ≡ decides number (entry window.now n) }
+{
+    window.entry(n).decides(number)
+}
+
 // What the newest instruction before the n-th says that decides where the word of data with this number is.
 fn decided(window: &Window, number: u32, n: u32) -> Option<Source>
     ensures { result ≡ store_below window.now number n }
 {
-    let mut k = n;
-    'search: loop {
-        if k == 0 {
-            break 'search None;
-        }
-        k -= 1;
-        if let Some(source) = window.entry(k).decides(number) {
-            break 'search Some(source);
-        }
-    }
+    let k = newest(n, |k| decides(window, number, k).is_some())?;
+    decides(window, number, k)
 }
 
 // Where the n-th instruction finds the word of data with this number: with an older instruction, a waiting store, or in memory.

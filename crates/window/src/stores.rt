@@ -3,6 +3,7 @@ ghost use Rattle.std.specs.Prelude.{◌≡◌};
 ghost use Rattle.window.specs.Rings.{matches, buffer_source};
 
 use crate::entry::{Source, Store};
+use crate::ring::newest;
 use isa::devices::DEVICES;
 use rings::ring::Ring;
 
@@ -20,14 +21,8 @@ fn matches(stores: &StoreBuffer, number: u32, n: u32) -> bool
 pub fn source(stores: &StoreBuffer, number: u32) -> Source
     ensures { result ≡ buffer_source stores.now number }
 {
-    let mut n = stores.count;
-    'search: loop {
-        if n == 0 {
-            break 'search Source::Memory;
-        }
-        n -= 1;
-        if matches(stores, number, n) {
-            break 'search Source::Forwarded(stores.entry(n).value);
-        }
+    match newest(stores.count, |n| matches(stores, number, n)) {
+        Some(n) => Source::Forwarded(stores.entry(n).value),
+        None => Source::Memory,
     }
 }
