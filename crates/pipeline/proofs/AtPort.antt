@@ -67,10 +67,10 @@ module _ (k : Pipeline) (c : Core) (a : Ask) (s : Is k.path c) where
   turn_by false g = refl
 
   room_is : step.room k ≡ room c
-  room_is = ap (λ n. ltb n 4) (sym (queue_laws.tags_count k.path.requests s.sized.requests) ∙ ap (λ (c : Core). length c.requests) s.lists)
+  room_is = ap (λ n. ltb n 4) (sym (queue_laws.requests.count k.path.requests s.sized.requests) ∙ ap (λ (c : Core). length c.requests) s.lists)
 
   goes_is : goes k a ≡ store_goes k.turn (length c.stores) a
-  goes_is = ap (λ n. store_goes k.turn n a) (sym (buffer_laws.count k.path.stores) ∙ ap (λ (c : Core). length c.stores) s.lists)
+  goes_is = ap (λ n. store_goes k.turn n a) (sym (buffer_laws.list.count k.path.stores) ∙ ap (λ (c : Core). length c.stores) s.lists)
 
   pub port_is : Asks (ported k a).path (port_request k a) (request_if (room c) (pick (store_goes k.turn (length c.stores) a) drains (ask_port a)) c)
   port_is =
@@ -107,10 +107,10 @@ module _ (k : Datapath) (c : Core) (s : Is k c) where
   fetch_by false false lr lf = record { path = s; code = refl }
 
   fetch_room_is : ltb k.fetches.count 4 ≡ fetch_room c
-  fetch_room_is = ap (λ n. ltb n 4) (sym (queue_laws.wants_count k.fetches s.sized.fetches) ∙ ap (λ (c : Core). length c.fetches) s.lists)
+  fetch_room_is = ap (λ n. ltb n 4) (sym (queue_laws.fetches.count k.fetches s.sized.fetches) ∙ ap (λ (c : Core). length c.fetches) s.lists)
 
   not_full : not (leb size k.window.count) ≡ ltb (length c.window) size
-  not_full = by (leb size k.window.count) refl ∙ ap (λ n. ltb n size) (sym (ring_laws.count k.window) ∙ ap (λ (c : Core). length c.window) s.lists)
+  not_full = by (leb size k.window.count) refl ∙ ap (λ n. ltb n size) (sym (ring_laws.list.count k.window) ∙ ap (λ (c : Core). length c.window) s.lists)
     where
       by : (b : Bool) → leb size k.window.count ≡ b → not b ≡ ltb k.window.count size
       by true e = sym (le-ltb k.window.count size (leb-true size k.window.count e))

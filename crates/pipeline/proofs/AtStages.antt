@@ -4,11 +4,9 @@ use Rattle.isa.specs.Words.{pick}
 use Rattle.window.specs.declared.entry.Entry.{Entry}
 use Rattle.window.specs.declared.entry.Tag.{Tag}
 use Rattle.window.specs.declared.entry.Tag.TheVariants.{Acknowledgment}
-use Rattle.window.specs.declared.ring.Ring.{Ring}
-use Rattle.window.specs.declared.queues.Requests.{Requests}
 use Rattle.window.specs.declared.datapath.Datapath.{Datapath}
-use Rattle.window.specs.Rings.{size, no_entry, entry, around, items}
-use Rattle.window.specs.Queues.{tags, SizedRequests}
+use Rattle.window.specs.Rings.{size, Window, no_entry, entry, around, listed, items}
+use Rattle.window.specs.Queues.{Requests, queued, tags, SizedQueue}
 use Rattle.window.specs.Fairness.{is_load, any, load_open}
 use Rattle.window.specs.Datapaths.{lists, SizedDatapath}
 use Rattle.window.proofs.Circle.{slot_is}
@@ -16,7 +14,7 @@ use Rattle.pipeline.specs.declared.stages.Stage.TheVariants.{Read, Execute, Memo
 use Rattle.pipeline.specs.Stages.{asked, waits, lacks_operand, lacks_outcome, first_from, at_stage}
 use Rattle.pipeline.specs.Schedule.{first_in, at_memory, at_execute, at_read}
 
-first_around : (p : ℕ → Entry → Bool) (w : Ring) (n r : ℕ) → first_from (λ i. p i (entry w i)) n r ≡ first_in p n (around size no_entry w.at (w.begin + n) r)
+first_around : (p : ℕ → Entry → Bool) (w : Window) (n r : ℕ) → first_from (λ i. p i (entry w i)) n r ≡ first_in p n (around size no_entry w.at (w.begin + n) r)
 first_around p w n zero = refl
 first_around p w n (suc r) =
     let e : entry w n ≡ get_or w.at ((w.begin + n) % size) no_entry = ap (λ i. get_or w.at i no_entry) (slot_is size w.begin n) in
@@ -24,15 +22,15 @@ first_around p w n (suc r) =
     let q = first_around p w (n + 1) r ∙ ap (λ i. first_in p (n + 1) (around size no_entry w.at i r)) s in
     λ i. pick (p n (e i)) n (q i)
 
-first_items : (p : ℕ → Entry → Bool) (w : Ring) → first_from (λ i. p i (entry w i)) 0 w.count ≡ first_in p 0 (items w)
-unfolding items
+first_items : (p : ℕ → Entry → Bool) (w : Window) → first_from (λ i. p i (entry w i)) 0 w.count ≡ first_in p 0 (items w)
+unfolding listed
 first_items p w =
     let s : w.begin + 0 ≡ w.begin = omega arith in
     first_around p w 0 w.count ∙ ap (λ i. first_in p 0 (around size no_entry w.at i w.count)) s
 
 -- what is asked for is open
-asked_tags : (q : Requests) (n : ℕ) → SizedRequests q → asked q n ≡ any (map (is_load n) (tags q))
-unfolding tags
+asked_tags : (q : Requests) (n : ℕ) → SizedQueue q → asked q n ≡ any (map (is_load n) (tags q))
+unfolding queued
 asked_tags q n s = by q.at q.count s.slots s.count
   where
     both : (b : Bool) → b || false ≡ b

@@ -2,18 +2,17 @@
 use Rattle.std.proofs.Common.{◌≡◌, ℕ, zero, suc, ◌+◌, ◌-◌, ◌<◌, Bool, true, false, Some, None, Option, sym, refl, ap, ◌∙◌, arith}
 use Rattle.isa.specs.Words.{pick}
 use Rattle.window.specs.declared.entry.Entry.{Entry}
-use Rattle.window.specs.declared.ring.Ring.{Ring}
-use Rattle.window.specs.Rings.{entry, entry_at}
+use Rattle.window.specs.Rings.{Window, entry, entry_at}
 use Rattle.window.proofs.Circle.{by_test}
 use Rattle.window.proofs.Cases.{some_not_none}
 use Rattle.pipeline.specs.Stages.{first_from}
 
 -- an instruction that is found
-pub record Found (w : Ring) (n : ℕ) (e : Entry) : Type 0 where
+pub record Found (w : Window) (n : ℕ) (e : Entry) : Type 0 where
   pub below : n < w.count
   pub is : e ≡ entry w n
 
-pub found : (w : Ring) (n : ℕ) (e : Entry) → Some e ≡ entry_at w n → Found w n e
+pub found : (w : Window) (n : ℕ) (e : Entry) → Some e ≡ entry_at w n → Found w n e
 found w n e = by_test (λ (o : Option Entry). Some e ≡ o → Found w n e) n w.count (Some (entry w n)) None
     (λ l q. record { below = l; is = some_is q })
     (λ _ q. some_not_none (sym q) refl)

@@ -51,7 +51,7 @@ memory_is k c s = record {
 }
 
 entry_is : (k : Datapath) (c : Core) (n : ℕ) → Is k c → entry_at k.window n ≡ the_entry c n
-entry_is k c n s = ring_laws.get k.window n ∙ ap (λ (c : Core). the_entry c n) s.lists
+entry_is k c n s = ring_laws.list.get k.window n ∙ ap (λ (c : Core). the_entry c n) s.lists
 
 pub ask_is : (k : Datapath) (c : Core) → Is k c → memory_ask k ≡ ask_of (at_memory c) (the_entry (learn forward (at_memory c) c) (at_memory c))
 ask_is k c s =

@@ -7,11 +7,11 @@ use Rattle.isa.specs.declared.execute.Outcome.TheVariants.{Write as Writes, Jump
 use Rattle.window.specs.declared.entry.Entry.{Entry}
 use Rattle.window.specs.declared.entry.Tag.{Tag}
 use Rattle.window.specs.declared.entry.Tag.TheVariants.{Acknowledgment}
-use Rattle.window.specs.declared.queues.Requests.{Requests}
 use Rattle.window.specs.declared.datapath.Datapath.{Datapath}
 use Rattle.window.specs.Entries.{given}
 use Rattle.window.specs.Fairness as fairness
 use Rattle.window.specs.Rings.{entry, entry_at}
+use Rattle.window.specs.Queues.{Requests}
 use Rattle.pipeline.specs.declared.stages.Stage.{Stage}
 use Rattle.pipeline.specs.declared.stages.Stage.TheVariants.{Read, Execute, Memory}
 use Rattle.pipeline.specs.declared.stages.Ask.{Ask}

@@ -105,7 +105,7 @@ impl Core {
         ensures core { self.new ≡ ported self.old ask }
         ensures asks { result ≡ port_request self.old ask }
     {
-        if !self.path.requests.room() {
+        if self.path.requests.full() {
             return None;
         }
         if store_goes(self.turn, self.path.stores.count, ask) {
@@ -124,7 +124,7 @@ impl Core {
 fn fetch_room(path: &Datapath) -> bool
     ensures { result ≡ fetch_room path.now }
 {
-    path.fetches.room() && !path.window.full()
+    !path.fetches.full() && !path.window.full()
 }
 
 // Fetching: the next word of code is wanted, and predicted to be followed by the one behind it.

@@ -20,7 +20,7 @@ use Rattle.window.specs.declared.datapath.Datapath.{Datapath}
 use Rattle.window.specs.Entries.{given, number}
 use Rattle.window.specs.Machine.{with_requests, Asked, nothing_asked, ask_from, ask_outcome, ask_load, device_if, device_outcome, device_oldest, ask_device, halts_if, halts_outcome, halts_oldest, halted}
 use Rattle.window.specs.Rings.{items, waiting}
-use Rattle.window.specs.Queues.{request_pushed, wants}
+use Rattle.window.specs.Queues.{queue_pushed, wants}
 use Rattle.window.specs.Datapaths.{with_tags, lists, SizedDatapath}
 use Rattle.window.specs.Asking.{read_of, memory_at, load_at, load_address, load_asked, free_at, device_at, device_address, device_asked, halt_at, halts, AskingLaws}
 use Rattle.window.proofs.Cases.{given_cases}
@@ -38,13 +38,13 @@ module _ (k : Datapath) (s : SizedDatapath k) (room : k.requests.count < 4) wher
   -- a load
   module _ (n : ℕ) where
     abbrev load_then : Option ℕ → Datapath
-    load_then o = given o k (λ _. with_tags k (request_pushed k.requests (Load (number n))))
+    load_then o = given o k (λ _. with_tags k (queue_pushed k.requests (Load (number n))))
 
     load_from : (b : ℕ) (t : Bool) (q : Source) → Asks (pick t None (memory_at b q)) (load_then (pick t None (memory_at b q))) (ask_from (lists k) n b t q)
     load_from b true q = record { core = refl; req = refl }
     load_from b false Unknown = record { core = refl; req = refl }
     load_from b false (Forwarded x) = record { core = refl; req = refl }
-    load_from b false Memory = record { core = ap (with_requests (lists k)) (queue_laws.tags_push k.requests (Load (number n)) s.requests room); req = refl }
+    load_from b false Memory = record { core = ap (with_requests (lists k)) (queue_laws.requests.push k.requests (Load (number n)) s.requests room); req = refl }
 
     load_outcome : n ≤ k.window.count → (o : Outcome) → Asks (load_at k n o) (load_then (load_at k n o)) (ask_outcome (lists k) n o)
     load_outcome l (Writes r x b) = record { core = refl; req = refl }
@@ -60,7 +60,7 @@ module _ (k : Datapath) (s : SizedDatapath k) (room : k.requests.count < 4) wher
     load_known l (Some o) = load_outcome l o
 
     load_does : Asks (load_address k n) (load_asked k n) (ask_load n (lists k))
-    load_does = subst (λ o. Asks (at o) (load_then (at o)) (ask_load n (lists k))) (sym (ring_laws.get k.window n)) (by (nth (items k.window) n) refl)
+    load_does = subst (λ o. Asks (at o) (load_then (at o)) (ask_load n (lists k))) (sym (ring_laws.list.get k.window n)) (by (nth (items k.window) n) refl)
       where
         at : Option Entry → Option ℕ
         at o = given o None (λ e. given e.outcome None (load_at k n))
@@ -68,7 +68,7 @@ module _ (k : Datapath) (s : SizedDatapath k) (room : k.requests.count < 4) wher
         by : (o : Opt Entry) → nth (items k.window) n ≡ o
             → Asks (at (optional o)) (load_then (at (optional o))) (opt o (nothing_asked (lists k)) (λ e. given e.outcome (nothing_asked (lists k)) (ask_outcome (lists k) n)))
         by none e = record { core = refl; req = refl }
-        by (some x) e = let l = nth_inside (items k.window) n e in let c = ring_laws.count k.window in load_known (omega arith) x.outcome
+        by (some x) e = let l = nth_inside (items k.window) n e in let c = ring_laws.list.count k.window in load_known (omega arith) x.outcome
 
   -- the oldest's device
   abbrev device_then : Option ℕ → Datapath
@@ -78,7 +78,7 @@ module _ (k : Datapath) (s : SizedDatapath k) (room : k.requests.count < 4) wher
     stores = k.stores;
     device = Waiting b;
     window = k.window;
-    requests = request_pushed k.requests Device;
+    requests = queue_pushed k.requests Device;
     fetches = k.fetches;
   })
 
@@ -92,7 +92,7 @@ module _ (k : Datapath) (s : SizedDatapath k) (room : k.requests.count < 4) wher
       stores = waiting k.stores;
       device = Waiting b;
       window = items k.window;
-      requests = queue_laws.tags_push k.requests Device s.requests room i;
+      requests = queue_laws.requests.push k.requests Device s.requests room i;
       fetches = wants k.fetches;
     };
     req = refl;
@@ -106,7 +106,7 @@ module _ (k : Datapath) (s : SizedDatapath k) (room : k.requests.count < 4) wher
   device_from b false q = record { core = refl; req = refl }
   device_from b true (Waiting x) = record { core = refl; req = refl }
   device_from b true (Answered x y) = record { core = refl; req = refl }
-  device_from b true Idle = device_idle b (eqb k.stores.count 0) refl (waiting k.stores) (buffer_laws.count k.stores)
+  device_from b true Idle = device_idle b (eqb k.stores.count 0) refl (waiting k.stores) (buffer_laws.list.count k.stores)
 
   reads_outcome : (o : Outcome) → Asks (device_at k o) (device_then (device_at k o)) (device_outcome (lists k) o)
   reads_outcome (Writes r x b) = record { core = refl; req = refl }
@@ -120,7 +120,7 @@ module _ (k : Datapath) (s : SizedDatapath k) (room : k.requests.count < 4) wher
   reads_known (Some o) = reads_outcome o
 
   reads_does : Asks (device_address k) (device_asked k) (ask_device (lists k))
-  reads_does = subst (λ o. Asks (at o) (device_then (at o)) (ask_device (lists k))) (sym (ring_laws.get k.window 0)) (by (items k.window))
+  reads_does = subst (λ o. Asks (at o) (device_then (at o)) (ask_device (lists k))) (sym (ring_laws.list.get k.window 0)) (by (items k.window))
     where
       at : Option Entry → Option ℕ
       at o = given o None (λ e. given e.outcome None (device_at k))
@@ -131,7 +131,7 @@ module _ (k : Datapath) (s : SizedDatapath k) (room : k.requests.count < 4) wher
 
 -- it has stopped
 halts_is : (k : Datapath) → plain (stop_word (halts k)) ≡ halted (lists k)
-halts_is k = ap (λ o. plain (stop_word (given o None (λ e. given e.outcome None (halt_at k))))) (ring_laws.get k.window 0) ∙ by (items k.window)
+halts_is k = ap (λ o. plain (stop_word (given o None (λ e. given e.outcome None (halt_at k))))) (ring_laws.list.get k.window 0) ∙ by (items k.window)
   where
     idle : (h : Stop) (c : Bool) → eqb k.stores.count 0 ≡ c → (ps : List Store) → length ps ≡ k.stores.count → plain (stop_word (pick c (Some h) None)) ≡ halts_if ps Idle (how h)
     idle h true e [] l = refl
@@ -151,7 +151,7 @@ halts_is k = ap (λ o. plain (stop_word (given o None (λ e. given e.outcome Non
     outcome (Jumps b) = refl
     outcome (Loads r b) = refl
     outcome (Stores b x) = refl
-    outcome (Halts h) = busy h k.device (waiting k.stores) (buffer_laws.count k.stores)
+    outcome (Halts h) = busy h k.device (waiting k.stores) (buffer_laws.list.count k.stores)
 
     known : (o : Option Outcome) → plain (stop_word (given o None (halt_at k))) ≡ given o none (halts_outcome (lists k))
     known None = refl
@@ -171,13 +171,13 @@ asking_laws = record {
   load_sized = λ k n s. given_cases SizedDatapath (load_address k n) (λ _. s) (λ _ _. record {
     window = s.window;
     stores = s.stores;
-    requests = queue_laws.tags_push_sized k.requests (Load (number n)) s.requests;
+    requests = queue_laws.requests.push_sized k.requests (Load (number n)) s.requests;
     fetches = s.fetches;
   });
   reading_sized = λ k s. given_cases SizedDatapath (device_address k) (λ _. s) (λ _ _. record {
     window = s.window;
     stores = s.stores;
-    requests = queue_laws.tags_push_sized k.requests Device s.requests;
+    requests = queue_laws.requests.push_sized k.requests Device s.requests;
     fetches = s.fetches;
   });
 }

@@ -11,12 +11,12 @@ use Rattle.window.specs.declared.entry.Number.{Number}
 use Rattle.window.specs.declared.entry.Tag.{Tag}
 use Rattle.window.specs.declared.entry.Tag.TheVariants.{Acknowledgment, Load, Stale, Device}
 use Rattle.window.specs.declared.entry.DeviceRead.TheVariants.{Idle}
-use Rattle.window.specs.declared.ring.Ring.{Ring}
 use Rattle.window.specs.declared.datapath.Datapath.{Datapath}
 use Rattle.window.specs.Entries.{given, number, fresh, with_predicted, with_word, with_left, with_right, with_loaded}
 use Rattle.window.specs.Operands.{left_register, right_register}
-use Rattle.window.specs.Machine.{Core, with_window, with_requests, with_fetches, learn, read_left, read_right, execute, forwarded, forward_outcome, forward, kept, retags, renumbers, redirect, device_answered, get_data, take_data, get_code, take_code, fetch}
-use Rattle.window.specs.Rings.{size, entry, entry_at, put_at, cut_to, items, rest, Sized}
+use Rattle.window.specs.Machine.{Core, with_window, with_requests, with_fetches, retag, renumber, learn, read_left, read_right, execute, forwarded, forward_outcome, forward, kept, retags, renumbers, redirect, device_answered, get_data, take_data, get_code, take_code, fetch}
+use Rattle.rings.specs.Places.{put_at, cut_to}
+use Rattle.window.specs.Rings.{size, Window, entry, entry_at, items, rest, Sized}
 use Rattle.window.specs.Queues.{request_oldest, request_popped, fetch_oldest, fetch_popped, tags, wants}
 use Rattle.window.specs.Datapaths.{left_for, right_for, outcome_for, forward_by, forward_for, ruled, with_wants, with_tags, with_reading, code_for, code_taken, data_for, data_taken, redirect_to, redirected, next_pc_of, wanted, lists, SizedDatapath, DatapathLaws}
 use Rattle.window.proofs.Cases.{given_cases}
@@ -29,7 +29,7 @@ use Rattle.window.proofs.QueueList.{queue_laws}
 rule_is : (f : Datapath → ℕ → Entry → Option Entry) (g : Core → ℕ → Entry → Option Entry) (k : Datapath) (n : ℕ) → SizedDatapath k
     → (n < k.window.count → (e : Entry) → f k n e ≡ g (lists k) n e) → lists (ruled f k n) ≡ learn g n (lists k)
 rule_is f g k n s h =
-    ap (λ (w : Ring). with_window (lists k) (items w))
+    ap (λ (w : Window). with_window (lists k) (items w))
     (by_test (λ o. given o k.window (λ e. given (f k n e) k.window (put_at k.window n)) ≡ given o k.window (λ e. given (g (lists k) n e) k.window (put_at k.window n)))
     n k.window.count _ _ (λ l. ap (λ o. given o k.window (put_at k.window n)) (h l (entry k.window n))) (λ _. refl))
     ∙ sym (ring_laws.learn g n (lists k) k.window s.window refl)
@@ -56,23 +56,23 @@ forward_is k n s = rule_is forward_for forward k n s (λ l e i. given e.loaded (
 ruled_sized : (f : Datapath → ℕ → Entry → Option Entry) (k : Datapath) (n : ℕ) → SizedDatapath k → SizedDatapath (ruled f k n)
 ruled_sized f k n s = record {
   window = given_cases Sized (entry_at k.window n) (λ _. s.window) (λ e _.
-      given_cases Sized (f k n e) (λ _. s.window) (λ d _. ring_laws.put_sized k.window n d s.window));
+      given_cases Sized (f k n e) (λ _. s.window) (λ d _. ring_laws.list.put_sized k.window n d s.window));
   stores = s.stores;
   requests = s.requests;
   fetches = s.fetches;
 }
 
 wants_sized : (k : Datapath) → SizedDatapath k → SizedDatapath (with_wants k (fetch_popped k.fetches))
-wants_sized k s = record { window = s.window; stores = s.stores; requests = s.requests; fetches = queue_laws.wants_pop_sized k.fetches s.fetches }
+wants_sized k s = record { window = s.window; stores = s.stores; requests = s.requests; fetches = queue_laws.fetches.pop_sized k.fetches s.fetches }
 
 tags_sized : (k : Datapath) → SizedDatapath k → SizedDatapath (with_tags k (request_popped k.requests))
-tags_sized k s = record { window = s.window; stores = s.stores; requests = queue_laws.tags_pop_sized k.requests s.requests; fetches = s.fetches }
+tags_sized k s = record { window = s.window; stores = s.stores; requests = queue_laws.requests.pop_sized k.requests s.requests; fetches = s.fetches }
 
 -- answers
 code_is : (k : Datapath) (x : ℕ) → SizedDatapath k → lists (code_taken k x) ≡ take_code x (lists k) (wants k.fetches)
 code_is k x s =
-    ap (λ o. lists (given o k (code_for (with_wants k (fetch_popped k.fetches)) x))) (queue_laws.wants_oldest k.fetches s.fetches)
-    ∙ by (wants k.fetches) (queue_laws.wants_pop k.fetches s.fetches)
+    ap (λ o. lists (given o k (code_for (with_wants k (fetch_popped k.fetches)) x))) (queue_laws.fetches.oldest k.fetches s.fetches)
+    ∙ by (wants k.fetches) (queue_laws.fetches.pop k.fetches s.fetches)
   where
     by : (fs : List (Option Number)) → wants (fetch_popped k.fetches) ≡ rest fs
         → lists (given (optional (nth fs 0)) k (code_for (with_wants k (fetch_popped k.fetches)) x)) ≡ take_code x (lists k) fs
@@ -84,8 +84,8 @@ code_is k x s =
 
 data_is : (k : Datapath) (x : ℕ) → SizedDatapath k → lists (data_taken k x) ≡ take_data x (lists k) (tags k.requests)
 data_is k x s =
-    ap (λ o. lists (given o k (data_for (with_tags k (request_popped k.requests)) x))) (queue_laws.tags_oldest k.requests s.requests)
-    ∙ by (tags k.requests) (queue_laws.tags_pop k.requests s.requests)
+    ap (λ o. lists (given o k (data_for (with_tags k (request_popped k.requests)) x))) (queue_laws.requests.oldest k.requests s.requests)
+    ∙ by (tags k.requests) (queue_laws.requests.pop k.requests s.requests)
   where
     by : (ts : List Tag) → tags (request_popped k.requests) ≡ rest ts
         → lists (given (optional (nth ts 0)) k (data_for (with_tags k (request_popped k.requests)) x)) ≡ take_data x (lists k) ts
@@ -135,7 +135,7 @@ module _ (k : Datapath) (n g : ℕ) (s : SizedDatapath k) where
         pc = k.pc;
         stores = (lists k).stores;
         device = k.device;
-        window = (ap (λ j. items (cut_to (put_at k.window n (with_predicted e g)) j)) m ∙ ring_laws.redirect k.window n (with_predicted e g) s.window l) i;
+        window = (ap (λ j. items (cut_to (put_at k.window n (with_predicted e g)) j)) m ∙ ring_laws.list.redirect k.window n (with_predicted e g) s.window l) i;
         requests = (queue_laws.tags_by (kept (add n 1)) k.requests s.requests ∙ ap (λ j. retags (kept j) (tags k.requests)) m) i;
         fetches = (queue_laws.wants_by (kept (add n 1)) k.fetches s.fetches ∙ ap (λ j. renumbers (kept j) (wants k.fetches)) m) i;
       }
@@ -144,18 +144,29 @@ module _ (k : Datapath) (n g : ℕ) (s : SizedDatapath k) where
   by_entry none = refl
   by_entry (some e) = refl
 
+  unfoldable Same : Option Entry → Type 0
+  Same o = lists (given o k (redirect_to k n g)) ≡ given o (lists k) flushed
+
+  tested : Same (entry_at k.window n)
+  unfolding Same
+  tested = by_test Same n k.window.count (Some (entry k.window n)) None (λ l. inside l (entry k.window n)) (λ _. refl)
+
+  step : (o : Option Entry) → Same o → lists (given o k (redirect_to k n g)) ≡ given o (lists k) flushed
+  unfolding Same
+  step o h = h
+
   redirect_is : lists (redirected k n g) ≡ redirect n g (lists k)
   redirect_is =
-      by_test (λ o. lists (given o k (redirect_to k n g)) ≡ given o (lists k) flushed) n k.window.count _ _ (λ l. inside l (entry k.window n)) (λ _. refl)
-      ∙ ap (λ o. given o (lists k) flushed) (ring_laws.get k.window n)
+      step (entry_at k.window n) tested
+      ∙ ap (λ o. given o (lists k) flushed) (ring_laws.list.get k.window n)
       ∙ by_entry (nth (items k.window) n)
 
   redirect_sized : SizedDatapath (redirected k n g)
   redirect_sized = given_cases SizedDatapath (entry_at k.window n) (λ _. s) (λ e _. record {
-    window = ring_laws.cut_sized (put_at k.window n (with_predicted e g)) (add n 1) (ring_laws.put_sized k.window n (with_predicted e g) s.window);
+    window = ring_laws.list.cut_sized (put_at k.window n (with_predicted e g)) (add n 1) (ring_laws.list.put_sized k.window n (with_predicted e g) s.window);
     stores = s.stores;
-    requests = queue_laws.tags_by_sized (kept (add n 1)) k.requests s.requests;
-    fetches = queue_laws.wants_by_sized (kept (add n 1)) k.fetches s.fetches;
+    requests = queue_laws.requests.by_sized (retag (kept (add n 1))) k.requests s.requests;
+    fetches = queue_laws.fetches.by_sized (renumber (kept (add n 1))) k.fetches s.fetches;
   })
 
 -- one more word of code
@@ -165,9 +176,9 @@ fetch_is k g s l m = λ i. record {
   pc = k.pc;
   stores = (lists k).stores;
   device = k.device;
-  window = (ring_laws.push k.window (fresh (next_pc_of k) g) s.window l ∙ ap (λ p. items k.window ++ (fresh p g ∷ [])) (ring_laws.next k.window k.pc)) i;
+  window = (ring_laws.list.push k.window (fresh (next_pc_of k) g) s.window l ∙ ap (λ p. items k.window ++ (fresh p g ∷ [])) (ring_laws.next k.window k.pc)) i;
   requests = (lists k).requests;
-  fetches = (queue_laws.wants_push k.fetches (number k.window.count) s.fetches m ∙ ap (λ n. wants k.fetches ++ (Some (number n) ∷ [])) (sym (ring_laws.count k.window))) i;
+  fetches = (queue_laws.fetches.push k.fetches (Some (number k.window.count)) s.fetches m ∙ ap (λ n. wants k.fetches ++ (Some (number n) ∷ [])) (sym (ring_laws.list.count k.window))) i;
 }
 
 pub datapath_laws : DatapathLaws
@@ -175,11 +186,11 @@ datapath_laws = record {
   start = λ a i. record {
     regs = replicate 32 0;
     pc = a;
-    stores = buffer_laws.start i;
+    stores = buffer_laws.list.start i;
     device = Idle;
-    window = ring_laws.start i;
-    requests = queue_laws.tags_start i;
-    fetches = queue_laws.wants_start i;
+    window = ring_laws.list.start i;
+    requests = queue_laws.requests.start i;
+    fetches = queue_laws.fetches.start i;
   };
   read_left = left_is;
   read_right = right_is;
@@ -191,19 +202,19 @@ datapath_laws = record {
   next_pc = λ k. ring_laws.next k.window k.pc;
   fetch = fetch_is;
   start_sized = λ a. record {
-    window = ring_laws.start_sized;
-    stores = buffer_laws.start_sized;
-    requests = queue_laws.tags_sized;
-    fetches = queue_laws.wants_sized;
+    window = ring_laws.list.start_sized;
+    stores = buffer_laws.list.start_sized;
+    requests = queue_laws.requests.start_sized;
+    fetches = queue_laws.fetches.start_sized;
   };
   ruled_sized = ruled_sized;
   code_sized = code_sized;
   data_sized = data_sized;
   redirect_sized = redirect_sized;
   fetch_sized = λ k g s. record {
-    window = ring_laws.push_sized k.window (fresh (next_pc_of k) g) s.window;
+    window = ring_laws.list.push_sized k.window (fresh (next_pc_of k) g) s.window;
     stores = s.stores;
     requests = s.requests;
-    fetches = queue_laws.wants_push_sized k.fetches (number k.window.count) s.fetches;
+    fetches = queue_laws.fetches.push_sized k.fetches (Some (number k.window.count)) s.fetches;
   };
 }

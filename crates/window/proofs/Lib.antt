@@ -16,6 +16,7 @@ pub mod ClockKept
 pub mod AlwaysRight
 pub mod Searches
 pub mod Circle
+pub mod ListOf
 pub mod RingList
 pub mod BufferList
 pub mod Marks
@@ -33,6 +34,7 @@ pub mod OldestReady
 pub mod OldestFirst
 pub mod Refined
 pub mod QueueList
+pub mod QueueMap
 pub mod EightRuns
 pub mod DatapathList
 pub mod RetiringList

@@ -12,8 +12,8 @@ use Rattle.window.specs.declared.entry.DeviceRead.{DeviceRead}
 use Rattle.window.specs.declared.entry.DeviceRead.TheVariants.{Idle, Waiting, Answered}
 use Rattle.window.specs.declared.datapath.Datapath.{Datapath}
 use Rattle.window.specs.Entries.{given}
-use Rattle.window.specs.Machine.{popped, kept, Retired, none_retired, leave, retire_write, retire_device, retire_store, retire_outcome, retire_oldest, retire, drain_first, drain}
-use Rattle.window.specs.Rings.{entry, buffer_pushed, buffer_popped, items, waiting, rest}
+use Rattle.window.specs.Machine.{popped, kept, retag, renumber, Retired, none_retired, leave, retire_write, retire_device, retire_store, retire_outcome, retire_oldest, retire, drain_first, drain}
+use Rattle.window.specs.Rings.{entry, items, waiting, rest}
 use Rattle.window.specs.Rings as rings
 use Rattle.window.specs.Queues.{wants}
 use Rattle.window.specs.Datapaths.{lists, SizedDatapath}
@@ -34,7 +34,7 @@ moved_is k g b s = by (eqb b g)
       pc = b;
       stores = waiting k.stores;
       device = Idle;
-      window = ring_laws.pop k.window i;
+      window = ring_laws.list.pop k.window i;
       requests = queue_laws.tags_by popped k.requests s.requests i;
       fetches = queue_laws.wants_by popped k.fetches s.fetches i;
     }
@@ -43,7 +43,7 @@ moved_is k g b s = by (eqb b g)
       pc = b;
       stores = waiting k.stores;
       device = Idle;
-      window = ring_laws.cut k.window 0 i;
+      window = ring_laws.list.cut k.window 0 i;
       requests = queue_laws.tags_by (kept 0) k.requests s.requests i;
       fetches = queue_laws.wants_by (kept 0) k.fetches s.fetches i;
     }
@@ -53,16 +53,16 @@ moved_sized k g b s = by (eqb b g)
   where
     by : (t : Bool) → SizedDatapath (cond t (stayed k b) (emptied k b))
     by true = record {
-      window = ring_laws.pop_sized k.window s.window;
+      window = ring_laws.list.pop_sized k.window s.window;
       stores = s.stores;
-      requests = queue_laws.tags_by_sized popped k.requests s.requests;
-      fetches = queue_laws.wants_by_sized popped k.fetches s.fetches;
+      requests = queue_laws.requests.by_sized (retag popped) k.requests s.requests;
+      fetches = queue_laws.fetches.by_sized (renumber popped) k.fetches s.fetches;
     }
     by false = record {
-      window = ring_laws.cut_sized k.window 0 s.window;
+      window = ring_laws.list.cut_sized k.window 0 s.window;
       stores = s.stores;
-      requests = queue_laws.tags_by_sized (kept 0) k.requests s.requests;
-      fetches = queue_laws.wants_by_sized (kept 0) k.fetches s.fetches;
+      requests = queue_laws.requests.by_sized (retag (kept 0)) k.requests s.requests;
+      fetches = queue_laws.fetches.by_sized (renumber (kept 0)) k.fetches s.fetches;
     }
 
 -- what a rule leaves and shows is the machine's
@@ -98,21 +98,21 @@ module _ (k : Datapath) (s : SizedDatapath k) (e : Entry) (es : List Entry) (we 
   load_does d None = device_does d k.device
   load_does d (Some x) = write_does d x (add k.pc 4)
 
-  buffer_sized : (p : Store) → SizedDatapath (with_buffer k (buffer_pushed k.stores p))
-  buffer_sized p = record { window = s.window; stores = buffer_laws.push_sized k.stores p s.stores; requests = s.requests; fetches = s.fetches }
+  buffer_sized : (p : Store) → SizedDatapath (with_buffer k (rings.pushed k.stores p))
+  buffer_sized p = record { window = s.window; stores = buffer_laws.list.push_sized k.stores p s.stores; requests = s.requests; fetches = s.fetches }
 
   store_does : (p : Store) → Does k (store_retired k e p) (rets_of (store_done k)) (retire_store (lists k) e es p (ltb (length (waiting k.stores)) 8))
-  store_does p = subst (λ n. Does k (store_retired k e p) (rets_of (store_done k)) (retire_store (lists k) e es p (ltb n 8))) (sym (buffer_laws.count k.stores)) (by (ltb k.stores.count 8) refl)
+  store_does p = subst (λ n. Does k (store_retired k e p) (rets_of (store_done k)) (retire_store (lists k) e es p (ltb n 8))) (sym (buffer_laws.list.count k.stores)) (by (ltb k.stores.count 8) refl)
     where
       by : (t : Bool) → ltb k.stores.count 8 ≡ t
-          → Does k (cond t (moved_on (with_buffer k (buffer_pushed k.stores p)) e.predicted (add k.pc 4)) k)
+          → Does k (cond t (moved_on (with_buffer k (rings.pushed k.stores p)) e.predicted (add k.pc 4)) k)
           (rets_of (cond t (Some (plain_done k)) None)) (retire_store (lists k) e es p t)
       by false q = nothing
       by true q = record {
-        core = moved_is (with_buffer k (buffer_pushed k.stores p)) e.predicted (add k.pc 4) (buffer_sized p)
-            ∙ (λ i. leave (lists k) (tail_is i) k.regs.values (add k.pc 4) (buffer_laws.push k.stores p s.stores (ltb-true k.stores.count 8 q) i) (eqb (add k.pc 4) e.predicted));
+        core = moved_is (with_buffer k (rings.pushed k.stores p)) e.predicted (add k.pc 4) (buffer_sized p)
+            ∙ (λ i. leave (lists k) (tail_is i) k.regs.values (add k.pc 4) (buffer_laws.list.push k.stores p s.stores (ltb-true k.stores.count 8 q) i) (eqb (add k.pc 4) e.predicted));
         rets = refl;
-        sized = moved_sized (with_buffer k (buffer_pushed k.stores p)) e.predicted (add k.pc 4) (buffer_sized p);
+        sized = moved_sized (with_buffer k (rings.pushed k.stores p)) e.predicted (add k.pc 4) (buffer_sized p);
       }
 
   outcome_does : (o : Outcome) → Does k (outcome_retired k e o) (rets_of (outcome_done k e o)) (retire_outcome (lists k) e es o)
@@ -135,12 +135,12 @@ retire_does k s =
     by_test (λ o. Does k (given o k (λ e. given e.outcome k (outcome_retired k e))) (rets_of (given o None (λ e. given e.outcome None (outcome_done k e)))) (retire (lists k)))
     0 k.window.count _ _
     (λ l.
-    let w = ring_laws.oldest k.window l in
+    let w = ring_laws.list.oldest k.window l in
     subst (λ (z : List Entry). Does k (given (entry k.window 0).outcome k (outcome_retired k (entry k.window 0))) (rets_of (given (entry k.window 0).outcome None (outcome_done k (entry k.window 0)))) (retire_oldest (lists k) z))
     (sym w) (known_does k s (entry k.window 0) (items (rings.popped k.window)) w (entry k.window 0).outcome))
     (λ l.
     let z : k.window.count ≡ 0 = omega arith in
-    subst (λ (y : List Entry). Does k k [] (retire_oldest (lists k) y)) (sym (ring_laws.empty k.window z)) (record { core = refl; rets = refl; sized = s }))
+    subst (λ (y : List Entry). Does k k [] (retire_oldest (lists k) y)) (sym (ring_laws.list.empty k.window l)) (record { core = refl; rets = refl; sized = s }))
 
 -- a store goes out
 drain_is : (k : Datapath) → SizedDatapath k → k.requests.count < 4 → lists (drained k) ≡ (drain (lists k)).core
@@ -149,19 +149,19 @@ drain_is k s m =
     (λ l. (λ i. record {
       regs = k.regs.values;
       pc = k.pc;
-      stores = waiting (buffer_popped k.stores);
+      stores = waiting (rings.popped k.stores);
       device = k.device;
       window = items k.window;
-      requests = queue_laws.tags_push k.requests Acknowledgment s.requests m i;
+      requests = queue_laws.requests.push k.requests Acknowledgment s.requests m i;
       fetches = wants k.fetches;
-    }) ∙ sym (ap (λ (ps : List Store). (drain_first (lists k) ps).core) (buffer_laws.first k.stores l)))
-    (λ l. sym (ap (λ (ps : List Store). (drain_first (lists k) ps).core) (buffer_laws.empty k.stores l)))
+    }) ∙ sym (ap (λ (ps : List Store). (drain_first (lists k) ps).core) (buffer_laws.list.oldest k.stores l)))
+    (λ l. sym (ap (λ (ps : List Store). (drain_first (lists k) ps).core) (buffer_laws.list.empty k.stores l)))
 
 drain_asks : (k : Datapath) → request_of (drain_request k) ≡ (drain (lists k)).req
 drain_asks k =
     by_test (λ o. request_of o ≡ (drain (lists k)).req) 0 k.stores.count _ _
-    (λ l. sym (ap (λ (ps : List Store). (drain_first (lists k) ps).req) (buffer_laws.first k.stores l)))
-    (λ l. sym (ap (λ (ps : List Store). (drain_first (lists k) ps).req) (buffer_laws.empty k.stores l)))
+    (λ l. sym (ap (λ (ps : List Store). (drain_first (lists k) ps).req) (buffer_laws.list.oldest k.stores l)))
+    (λ l. sym (ap (λ (ps : List Store). (drain_first (lists k) ps).req) (buffer_laws.list.empty k.stores l)))
 
 pub retiring_laws : RetiringLaws
 retiring_laws = record {
@@ -172,8 +172,8 @@ retiring_laws = record {
   retire_sized = λ k s. (retire_does k s).sized;
   drain_sized = λ k s. by_test SizedDatapath 0 k.stores.count _ _ (λ l. record {
     window = s.window;
-    stores = buffer_laws.pop_sized k.stores s.stores;
-    requests = queue_laws.tags_push_sized k.requests Acknowledgment s.requests;
+    stores = buffer_laws.list.pop_sized k.stores s.stores;
+    requests = queue_laws.requests.push_sized k.requests Acknowledgment s.requests;
     fetches = s.fetches;
   }) (λ l. s);
 }

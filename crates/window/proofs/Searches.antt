@@ -1,55 +1,41 @@
--- One step of a search from the newest place down.
-use Rattle.std.proofs.Common.{◌≡◌, ℕ, zero, suc, ◌-◌, ◌<◌, Bool, true, false, cond, Some, None, Option, sym, refl, ap, ◌∙◌, sub-one, arith}
-use Rattle.window.specs.declared.entry.Entry.{Entry}
+-- A search from the newest place down.
+use Rattle.std.proofs.Common.{◌≡◌, ℕ, zero, suc, ◌-◌, ◌<◌, List, get_or, slice_get, Bool, true, false, cond, Some, None, Option, is_some, sym, refl, ap, ◌∙◌, sub-one, arith}
+use Rattle.std.proofs.lemmas.Option.{get_or_from_slice_get}
 use Rattle.window.specs.declared.entry.Source.{Source}
-use Rattle.window.specs.declared.entry.Source.TheVariants.{Forwarded}
-use Rattle.window.specs.declared.ring.Ring.{Ring}
-use Rattle.window.specs.declared.stores.StoreBuffer.{StoreBuffer}
+use Rattle.window.specs.declared.entry.Source.TheVariants.{Memory, Forwarded}
 use Rattle.window.specs.Entries.{given}
-use Rattle.window.specs.Scans.{hits, decides}
-use Rattle.window.specs.Rings.{entry, writer_below, store_below, buffer_entry, matches, row_below}
+use Rattle.window.specs.Scans.{decides}
+use Rattle.window.specs.Rings.{Window, StoreBuffer, entry, newest_below, store_below, buffer_entry, matches, row_below}
 
--- the newest writer
-module _ (w : Ring) (r k : ℕ) (h : 0 < k) (e : Entry) (ee : e ≡ entry w (k - 1)) (b : Bool) (eb : b ≡ hits r e) where
-  writer_step : writer_below w r k ≡ cond b (Some (k - 1)) (writer_below w r (k - 1))
-  writer_step = by k h ∙ ap (λ z. cond z (Some (k - 1)) (writer_below w r (k - 1))) (sym (eb ∙ ap (hits r) ee))
-    where
-      by : (k : ℕ) → 0 < k → writer_below w r k ≡ cond (hits r (entry w (k - 1))) (Some (k - 1)) (writer_below w r (k - 1))
-      by zero h = absurd (omega arith)
-      by (suc k) h = rw sub-one refl
+-- what was read from a place
+pub read : {A : Type 0} (xs : List A) (i : ℕ) (x d : A) → slice_get xs i ≡ Some x → x ≡ get_or xs i d
+read xs i x d e = sym (get_or_from_slice_get xs i x d e)
 
-  pub writer_on : b ≡ false → writer_below w r k ≡ writer_below w r (k - 1)
-  writer_on q = writer_step ∙ ap (λ z. cond z (Some (k - 1)) (writer_below w r (k - 1))) q
+-- the newest below k, by what the place before k is
+below_step : (f : ℕ → Bool) (k : ℕ) → 0 < k → newest_below f k ≡ cond (f (k - 1)) (Some (k - 1)) (newest_below f (k - 1))
+below_step f zero h = absurd (omega arith)
+below_step f (suc k) h = rw sub-one refl
 
-  pub writer_here : b ≡ true → writer_below w r k ≡ Some (k - 1)
-  writer_here q = writer_step ∙ ap (λ z. cond z (Some (k - 1)) (writer_below w r (k - 1))) q
+pub below_on : (f : ℕ → Bool) (k : ℕ) → 0 < k → false ≡ f (k - 1) → newest_below f k ≡ newest_below f (k - 1)
+below_on f k h e = below_step f k h ∙ ap (λ z. cond z (Some (k - 1)) (newest_below f (k - 1))) (sym e)
 
--- the newest that decides where a word is
-module _ (w : Ring) (i k : ℕ) (h : 0 < k) (e : Entry) (ee : e ≡ entry w (k - 1)) (o : Option Source) (eo : o ≡ decides i e) where
-  store_step : store_below w i k ≡ given o (store_below w i (k - 1)) Some
-  store_step = by k h ∙ ap (λ z. given z (store_below w i (k - 1)) Some) (sym (eo ∙ ap (decides i) ee))
-    where
-      by : (k : ℕ) → 0 < k → store_below w i k ≡ given (decides i (entry w (k - 1))) (store_below w i (k - 1)) Some
-      by zero h = absurd (omega arith)
-      by (suc k) h = rw sub-one refl
+pub below_here : (f : ℕ → Bool) (k : ℕ) → 0 < k → true ≡ f (k - 1) → newest_below f k ≡ Some (k - 1)
+below_here f k h e = below_step f k h ∙ ap (λ z. cond z (Some (k - 1)) (newest_below f (k - 1))) (sym e)
 
-  pub store_on : o ≡ None → store_below w i k ≡ store_below w i (k - 1)
-  store_on q = store_step ∙ ap (λ z. given z (store_below w i (k - 1)) Some) q
+-- what the newest that decides says, and the newest store's word
+pub store_is : (w : Window) (i n : ℕ) → store_below w i n ≡ given (newest_below (λ k. is_some (decides i (entry w k))) n) None (λ k. decides i (entry w k))
+store_is w i zero = refl
+store_is w i (suc n) = by (store_is w i n) (decides i (entry w n)) refl
+  where
+    by : store_below w i n ≡ given (newest_below (λ k. is_some (decides i (entry w k))) n) None (λ k. decides i (entry w k)) → (o : Option Source) → decides i (entry w n) ≡ o
+        → given o (store_below w i n) Some ≡ given (cond (is_some o) (Some n) (newest_below (λ k. is_some (decides i (entry w k))) n)) None (λ k. decides i (entry w k))
+    by others None e = others
+    by others (Some s) e = sym e
 
-  pub store_here : (s : Source) → o ≡ Some s → store_below w i k ≡ o
-  store_here s q = store_step ∙ ap (λ z. given z (store_below w i (k - 1)) Some) q ∙ sym q
-
--- the newest waiting store to a word
-module _ (b : StoreBuffer) (i n : ℕ) (h : 0 < n) (t : Bool) (et : t ≡ matches b i (n - 1)) where
-  row_step : row_below b i n ≡ cond t (Forwarded (buffer_entry b (n - 1)).value) (row_below b i (n - 1))
-  row_step = by n h ∙ ap (λ z. cond z (Forwarded (buffer_entry b (n - 1)).value) (row_below b i (n - 1))) (sym et)
-    where
-      by : (n : ℕ) → 0 < n → row_below b i n ≡ cond (matches b i (n - 1)) (Forwarded (buffer_entry b (n - 1)).value) (row_below b i (n - 1))
-      by zero h = absurd (omega arith)
-      by (suc n) h = rw sub-one refl
-
-  pub row_on : t ≡ false → row_below b i n ≡ row_below b i (n - 1)
-  row_on q = row_step ∙ ap (λ z. cond z (Forwarded (buffer_entry b (n - 1)).value) (row_below b i (n - 1))) q
-
-  pub row_here : t ≡ true → row_below b i n ≡ Forwarded (buffer_entry b (n - 1)).value
-  row_here q = row_step ∙ ap (λ z. cond z (Forwarded (buffer_entry b (n - 1)).value) (row_below b i (n - 1))) q
+pub row_is_newest : (b : StoreBuffer) (i n : ℕ) → row_below b i n ≡ given (newest_below (matches b i) n) Memory (λ k. Forwarded (buffer_entry b k).value)
+row_is_newest b i zero = refl
+row_is_newest b i (suc n) = by (row_is_newest b i n) (matches b i n)
+  where
+    by : row_below b i n ≡ given (newest_below (matches b i) n) Memory (λ k. Forwarded (buffer_entry b k).value) → (t : Bool) → cond t (Forwarded (buffer_entry b n).value) (row_below b i n) ≡ given (cond t (Some n) (newest_below (matches b i) n)) Memory (λ k. Forwarded (buffer_entry b k).value)
+    by others true = refl
+    by others false = others

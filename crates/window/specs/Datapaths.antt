@@ -1,31 +1,37 @@
 -- The state of a core with a window, in code: what its rules do, and what that is to the machine's.
-use Rattle.std.specs.Prelude.{◌≡◌, ℕ, ◌-◌, ◌/◌, ◌<◌, Some, None, Option}
+use Rattle.std.specs.Prelude.{◌≡◌, ℕ, ◌-◌, ◌/◌, ◌<◌, Some, None, Option, MatchOption}
 use Rattle.isa.specs.Words.{pick, add}
 use Rattle.isa.specs.Manual.{device}
 use Rattle.isa.specs.Registers.{no_regs}
+use Rattle.isa.specs.declared.reg.Reg.{Reg}
 use Rattle.isa.specs.declared.execute.Outcome.{Outcome}
 use Rattle.isa.specs.declared.execute.Outcome.TheVariants.{Write as Writes, Jump as Jumps, Load as Loads, Store as Stores, Halt as Halts}
+use Rattle.rings.specs.Places.{put_at, cut_to}
 use Rattle.window.specs.declared.entry.Entry.{Entry}
 use Rattle.window.specs.declared.entry.Number.{Number}
 use Rattle.window.specs.declared.entry.Tag.{Tag}
 use Rattle.window.specs.declared.entry.Tag.TheVariants.{Acknowledgment, Load, Stale, Device}
 use Rattle.window.specs.declared.entry.DeviceRead.{DeviceRead}
 use Rattle.window.specs.declared.entry.DeviceRead.TheVariants.{Idle}
-use Rattle.window.specs.declared.ring.Ring.{Ring}
-use Rattle.window.specs.declared.queues.Requests.{Requests}
-use Rattle.window.specs.declared.queues.Fetches.{Fetches}
 use Rattle.window.specs.declared.datapath.Datapath.{Datapath}
 use Rattle.window.specs.Entries.{given, number, fresh, with_predicted, with_word, with_left, with_right, with_loaded}
 use Rattle.window.specs.Operands.{left_register, right_register}
 use Rattle.window.specs.Machine.{Core, begun, learn, read_left, read_right, executed, execute, forwarded, forward, kept, redirect, device_answered, take_data, take_code, next_pc, fetch}
-use Rattle.window.specs.Rings.{size, ring_start, pushed, cut_to, operand, source_in, entry_at, put_at, buffer_start, items, waiting, Sized, SizedBuffer}
-use Rattle.window.specs.Queues.{requests_start, request_oldest, request_popped, requests_by, fetches_start, fetch_pushed, fetch_oldest, fetch_popped, fetches_by, tags, wants, SizedRequests, SizedFetches}
+use Rattle.window.specs.Rings.{size, Window, ring_start, pushed, operand, source_in, entry_at, buffer_start, items, waiting, Sized}
+use Rattle.window.specs.Queues.{queue_pushed, SizedQueue, Requests, requests_start, request_oldest, request_popped, requests_by, Fetches, fetches_start, fetch_oldest, fetch_popped, fetches_by, tags, wants}
 
 abbrev pub datapath_start : ℕ → Datapath
 datapath_start a = record { regs = no_regs; pc = a; stores = buffer_start; device = Idle; window = ring_start; requests = requests_start; fetches = fetches_start }
 
-abbrev pub with_ring : Datapath → Ring → Datapath
+abbrev pub with_ring : Datapath → Window → Datapath
 with_ring k w = record { regs = k.regs; pc = k.pc; stores = k.stores; device = k.device; window = w; requests = k.requests; fetches = k.fetches }
+
+-- an operand that is not known yet, by the register that the word names, if there is a word
+abbrev pub named : Option Reg → Option ℕ
+named r = given r None (λ g. Some g.number)
+
+abbrev pub operand_for : Datapath → ℕ → Option ℕ → Option ℕ → Option ℕ
+operand_for k n known r = given known (given r None (λ g. operand k.window k.regs.values g n)) (λ _. None)
 
 -- what the n-th instruction, which is e, learns by each rule
 abbrev pub left_for : Datapath → ℕ → Entry → Option Entry
@@ -50,6 +56,10 @@ forward_for k n e = given e.loaded (given e.outcome None (forward_by k n e)) (λ
 -- a rule by which the n-th learns
 abbrev pub ruled : (Datapath → ℕ → Entry → Option Entry) → Datapath → ℕ → Datapath
 ruled f k n = with_ring k (given (entry_at k.window n) k.window (λ e. given (f k n e) k.window (put_at k.window n)))
+
+-- the n-th has learned what a rule gives it, if that is something
+abbrev pub Learns : (Entry → Option Entry → Type 0) → Datapath → ℕ → Datapath → Type 0
+Learns Gives k n j = MatchOption (entry_at k.window n) (j ≡ k) (λ e. (o : Option Entry) × Gives e o × (j ≡ with_ring k (given o k.window (put_at k.window n))))
 
 abbrev pub with_wants : Datapath → Fetches → Datapath
 with_wants k q = record { regs = k.regs; pc = k.pc; stores = k.stores; device = k.device; window = k.window; requests = k.requests; fetches = q }
@@ -78,6 +88,18 @@ data_for k x Device = with_reading k (device_answered x k.device)
 abbrev pub data_taken : Datapath → ℕ → Datapath
 data_taken k x = given (request_oldest k.requests) k (data_for (with_tags k (request_popped k.requests)) x)
 
+-- the instructions from n on are flushed
+abbrev pub flushed : Datapath → ℕ → Datapath
+flushed k n = record {
+  regs = k.regs;
+  pc = k.pc;
+  stores = k.stores;
+  device = k.device;
+  window = cut_to k.window n;
+  requests = requests_by (kept n) k.requests;
+  fetches = fetches_by (kept n) k.fetches;
+}
+
 -- another prediction
 abbrev pub redirect_to : Datapath → ℕ → ℕ → Entry → Datapath
 redirect_to k n g e = record {
@@ -105,7 +127,7 @@ wanted k g = record {
   device = k.device;
   window = pushed k.window (fresh (next_pc_of k) g);
   requests = k.requests;
-  fetches = fetch_pushed k.fetches (number k.window.count);
+  fetches = queue_pushed k.fetches (Some (number k.window.count));
 }
 
 -- the machine's state that it stands for
@@ -122,9 +144,9 @@ lists k = record {
 
 pub record SizedDatapath (k : Datapath) : Type 0 where
   pub window : Sized k.window
-  pub stores : SizedBuffer k.stores
-  pub requests : SizedRequests k.requests
-  pub fetches : SizedFetches k.fetches
+  pub stores : Sized k.stores
+  pub requests : SizedQueue k.requests
+  pub fetches : SizedQueue k.fetches
 
 pub record DatapathLaws : Type 0 where
   pub start : (a : ℕ) → lists (datapath_start a) ≡ begun a

@@ -1,5 +1,5 @@
 -- The general machine: its state, and its rules. Rules fill in what was unknown, retire the oldest, push one more at the end, or flush the end.
-use Rattle.std.specs.Prelude.{ℕ, zero, suc, ◌/◌, Bool, true, false, List, [], ◌∷◌, ◌++◌, length, take, replicate, Some, None, Option, ◌==◌, nat_lt}
+use Rattle.std.specs.Prelude.{ℕ, zero, suc, ◌/◌, Bool, true, false, List, [], ◌∷◌, ◌++◌, map, length, take, replicate, Some, None, Option, ◌==◌, nat_lt}
 use Rattle.std.proofs.Math.Option.{Option as Opt, some, none}
 use Rattle.isa.specs.Words.{pick, opt, nth, put, add}
 use Rattle.isa.specs.Manual.{Ret, device}
@@ -119,16 +119,14 @@ retag g Stale = Stale
 retag g Device = Device
 
 abbrev pub retags : (ℕ → Option ℕ) → List Tag → List Tag
-retags g [] = []
-retags g (t ∷ ts) = retag g t ∷ retags g ts
+retags g ts = map (retag g) ts
 
 abbrev pub renumber : (ℕ → Option ℕ) → Option Number → Option Number
 renumber g None = None
 renumber g (Some n) = given (g n.0) None (λ j. Some (number j))
 
 abbrev pub renumbers : (ℕ → Option ℕ) → List (Option Number) → List (Option Number)
-renumbers g [] = []
-renumbers g (f ∷ fs) = renumber g f ∷ renumbers g fs
+renumbers g fs = map (renumber g) fs
 
 -- another prediction for the n-th instruction: what is younger is flushed
 abbrev pub redirect : ℕ → ℕ → Core → Core

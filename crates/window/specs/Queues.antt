@@ -1,87 +1,87 @@
--- The queues of open requests and of wanted words of code: what the code's methods do, and what that is to their lists.
-use Rattle.std.specs.Prelude.{◌≡◌, ℕ, ◌+◌, ◌-◌, ◌<◌, ◌≤◌, cond, List, [], ◌∷◌, ◌++◌, length, take, replicate, Some, None, Option, nat_lt, slice_index_or, slice_set}
+-- The queues of open requests and of wanted words of code, at most four of each: what the code does with them, and what that is to their lists.
+use Rattle.std.specs.Prelude.{◌≡◌, ℕ, ◌+◌, ◌<◌, ◌≤◌, cond, List, [], ◌∷◌, ◌++◌, map, length, take, None, Option, nat_lt, slice_set}
 use Rattle.isa.specs.Words.{nth}
 use Rattle.pins.specs.PortWords.{optional}
+use Rattle.rings.specs.declared.queue.Queue.{Queue}
+use Rattle.rings.specs.QueueRules.{queue_of}
+use Rattle.rings.specs.Places.{queue_oldest, queue_shifted}
 use Rattle.window.specs.declared.entry.Number.{Number}
 use Rattle.window.specs.declared.entry.Tag.{Tag}
 use Rattle.window.specs.declared.entry.Tag.TheVariants.{Acknowledgment}
-use Rattle.window.specs.declared.queues.Requests.{Requests}
-use Rattle.window.specs.declared.queues.Fetches.{Fetches}
 use Rattle.window.specs.Machine.{retag, retags, renumber, renumbers}
 use Rattle.window.specs.Rings.{rest}
 
--- four places: without the first, and each changed
-module _ {A : Type 0} (d : A) where
-  abbrev pub moved_up : List A → List A
-  moved_up xs = slice_index_or xs 1 d ∷ slice_index_or xs 2 d ∷ slice_index_or xs 3 d ∷ d ∷ []
+module _ {A : Type 0} {N : ℕ} where
+  -- one more, the newest; a full queue stays as it is
+  abbrev pub queue_pushed : Queue A N → A → Queue A N
+  queue_pushed q x = cond (nat_lt q.count N) (record { count = q.count + 1; at = slice_set q.at q.count x }) q
 
-  abbrev pub changed : (A → A) → List A → List A
-  changed f xs = f (slice_index_or xs 0 d) ∷ f (slice_index_or xs 1 d) ∷ f (slice_index_or xs 2 d) ∷ f (slice_index_or xs 3 d) ∷ []
+  -- each changed
+  abbrev pub queue_by : (A → A) → Queue A N → Queue A N
+  queue_by f q = record { count = q.count; at = map f q.at }
+
+  -- the list that a queue stands for, oldest first: shut, for the laws
+  unfoldable pub queued : Queue A N → List A
+  queued q = take q.count q.at
+
+  pub record SizedQueue (q : Queue A N) : Type 0 where
+    pub slots : length q.at ≡ N
+    pub count : q.count ≤ N
+
+-- what each change of a queue is to its list; d stands in its free places
+pub record QueueListLaws {A : Type 0} (N : ℕ) (d : A) : Type 0 where
+  pub start : queued (queue_of {n = N} d) ≡ []
+  pub count : (q : Queue A N) → SizedQueue q → length (queued q) ≡ q.count
+  pub push : (q : Queue A N) (x : A) → SizedQueue q → q.count < N → queued (queue_pushed q x) ≡ queued q ++ (x ∷ [])
+  pub oldest : (q : Queue A N) → SizedQueue q → queue_oldest d q ≡ optional (nth (queued q) 0)
+  pub pop : (q : Queue A N) → SizedQueue q → queued (queue_shifted q d) ≡ rest (queued q)
+  pub by : (f : A → A) (q : Queue A N) → SizedQueue q → queued (queue_by f q) ≡ map f (queued q)
+  -- sizes are kept
+  pub start_sized : SizedQueue (queue_of {n = N} d)
+  pub push_sized : (q : Queue A N) (x : A) → SizedQueue q → SizedQueue (queue_pushed q x)
+  pub pop_sized : (q : Queue A N) → SizedQueue q → SizedQueue (queue_shifted q d)
+  pub by_sized : (f : A → A) (q : Queue A N) → SizedQueue q → SizedQueue (queue_by f q)
+
+-- what the open requests are for
+abbrev pub Requests : Type 0
+Requests = Queue Tag 4
 
 abbrev pub requests_start : Requests
-requests_start = record { count = 0; at = replicate 4 Acknowledgment }
-
-abbrev pub request_pushed : Requests → Tag → Requests
-request_pushed q t = cond (nat_lt q.count 4) (record { count = q.count + 1; at = slice_set q.at q.count t }) q
+requests_start = queue_of Acknowledgment
 
 abbrev pub request_oldest : Requests → Option Tag
-request_oldest q = cond (nat_lt 0 q.count) (Some (slice_index_or q.at 0 Acknowledgment)) None
+request_oldest q = queue_oldest Acknowledgment q
 
 abbrev pub request_popped : Requests → Requests
-request_popped q = record { count = q.count - 1; at = moved_up Acknowledgment q.at }
+request_popped q = queue_shifted q Acknowledgment
 
 abbrev pub requests_by : (ℕ → Option ℕ) → Requests → Requests
-requests_by g q = record { count = q.count; at = changed Acknowledgment (retag g) q.at }
+requests_by g q = queue_by (retag g) q
+
+abbrev pub tags : Requests → List Tag
+tags q = queued q
+
+-- which instructions the wanted words of code are for
+abbrev pub Fetches : Type 0
+Fetches = Queue (Option Number) 4
 
 abbrev pub fetches_start : Fetches
-fetches_start = record { count = 0; at = replicate 4 None }
-
-abbrev pub fetch_pushed : Fetches → Number → Fetches
-fetch_pushed q n = cond (nat_lt q.count 4) (record { count = q.count + 1; at = slice_set q.at q.count (Some n) }) q
+fetches_start = queue_of None
 
 abbrev pub fetch_oldest : Fetches → Option (Option Number)
-fetch_oldest q = cond (nat_lt 0 q.count) (Some (slice_index_or q.at 0 None)) None
+fetch_oldest q = queue_oldest None q
 
 abbrev pub fetch_popped : Fetches → Fetches
-fetch_popped q = record { count = q.count - 1; at = moved_up None q.at }
+fetch_popped q = queue_shifted q None
 
 abbrev pub fetches_by : (ℕ → Option ℕ) → Fetches → Fetches
-fetches_by g q = record { count = q.count; at = changed None (renumber g) q.at }
+fetches_by g q = queue_by (renumber g) q
 
--- the lists that they stand for, oldest first: shut, for the laws
-unfoldable pub tags : Requests → List Tag
-tags q = take q.count q.at
-
-unfoldable pub wants : Fetches → List (Option Number)
-wants q = take q.count q.at
-
-pub record SizedRequests (q : Requests) : Type 0 where
-  pub slots : length q.at ≡ 4
-  pub count : q.count ≤ 4
-
-pub record SizedFetches (q : Fetches) : Type 0 where
-  pub slots : length q.at ≡ 4
-  pub count : q.count ≤ 4
+abbrev pub wants : Fetches → List (Option Number)
+wants q = queued q
 
 pub record QueueLaws : Type 0 where
-  pub tags_start : tags requests_start ≡ []
-  pub tags_count : (q : Requests) → SizedRequests q → length (tags q) ≡ q.count
-  pub tags_push : (q : Requests) (t : Tag) → SizedRequests q → q.count < 4 → tags (request_pushed q t) ≡ tags q ++ (t ∷ [])
-  pub tags_oldest : (q : Requests) → SizedRequests q → request_oldest q ≡ optional (nth (tags q) 0)
-  pub tags_pop : (q : Requests) → SizedRequests q → tags (request_popped q) ≡ rest (tags q)
-  pub tags_by : (g : ℕ → Option ℕ) (q : Requests) → SizedRequests q → tags (requests_by g q) ≡ retags g (tags q)
-  pub wants_start : wants fetches_start ≡ []
-  pub wants_count : (q : Fetches) → SizedFetches q → length (wants q) ≡ q.count
-  pub wants_push : (q : Fetches) (n : Number) → SizedFetches q → q.count < 4 → wants (fetch_pushed q n) ≡ wants q ++ (Some n ∷ [])
-  pub wants_oldest : (q : Fetches) → SizedFetches q → fetch_oldest q ≡ optional (nth (wants q) 0)
-  pub wants_pop : (q : Fetches) → SizedFetches q → wants (fetch_popped q) ≡ rest (wants q)
-  pub wants_by : (g : ℕ → Option ℕ) (q : Fetches) → SizedFetches q → wants (fetches_by g q) ≡ renumbers g (wants q)
-  -- sizes are kept
-  pub tags_sized : SizedRequests requests_start
-  pub tags_push_sized : (q : Requests) (t : Tag) → SizedRequests q → SizedRequests (request_pushed q t)
-  pub tags_pop_sized : (q : Requests) → SizedRequests q → SizedRequests (request_popped q)
-  pub tags_by_sized : (g : ℕ → Option ℕ) (q : Requests) → SizedRequests q → SizedRequests (requests_by g q)
-  pub wants_sized : SizedFetches fetches_start
-  pub wants_push_sized : (q : Fetches) (n : Number) → SizedFetches q → SizedFetches (fetch_pushed q n)
-  pub wants_pop_sized : (q : Fetches) → SizedFetches q → SizedFetches (fetch_popped q)
-  pub wants_by_sized : (g : ℕ → Option ℕ) (q : Fetches) → SizedFetches q → SizedFetches (fetches_by g q)
+  pub requests : QueueListLaws 4 Acknowledgment
+  pub fetches : QueueListLaws {A = Option Number} 4 None
+  pub tags_by : (g : ℕ → Option ℕ) (q : Requests) → SizedQueue q → tags (requests_by g q) ≡ retags g (tags q)
+  pub wants_by : (g : ℕ → Option ℕ) (q : Fetches) → SizedQueue q → wants (fetches_by g q) ≡ renumbers g (wants q)

@@ -8,19 +8,31 @@ use Rattle.pins.specs.PortWords.{ret_of, request_of}
 use Rattle.pins.specs.declared.ports.Retired.{Retired}
 use Rattle.pins.specs.declared.ports.Request.{Request}
 use Rattle.pins.specs.declared.ports.Request.TheVariants.{Write}
+use Rattle.rings.specs.Places.{cut_to}
 use Rattle.window.specs.declared.entry.Entry.{Entry}
 use Rattle.window.specs.declared.entry.Store.{Store}
 use Rattle.window.specs.declared.entry.Tag.TheVariants.{Acknowledgment}
 use Rattle.window.specs.declared.entry.DeviceRead.{DeviceRead}
 use Rattle.window.specs.declared.entry.DeviceRead.TheVariants.{Idle, Waiting, Answered}
-use Rattle.window.specs.declared.stores.StoreBuffer.{StoreBuffer}
 use Rattle.window.specs.declared.datapath.Datapath.{Datapath}
 use Rattle.window.specs.Entries.{given}
 use Rattle.window.specs.Machine.{popped, kept, retire, drain}
-use Rattle.window.specs.Rings.{entry_at, cut_to, buffer_entry, buffer_pushed, buffer_popped}
+use Rattle.window.specs.Rings.{entry_at, StoreBuffer, buffer_entry}
 use Rattle.window.specs.Rings as rings
-use Rattle.window.specs.Queues.{request_pushed, requests_by, fetches_by}
+use Rattle.window.specs.Queues.{queue_pushed, requests_by, fetches_by}
 use Rattle.window.specs.Datapaths.{lists, SizedDatapath}
+
+-- the oldest leaves the window: in the queues each number is one less
+abbrev pub numbers_popped : Datapath → Datapath
+numbers_popped k = record {
+  regs = k.regs;
+  pc = k.pc;
+  stores = k.stores;
+  device = k.device;
+  window = k.window;
+  requests = requests_by popped k.requests;
+  fetches = fetches_by popped k.fetches;
+}
 
 -- it goes on at b, where g was predicted
 abbrev pub stayed : Datapath → ℕ → Datapath
@@ -62,6 +74,11 @@ with_register k d x = record { regs = record { values = put k.regs.values d x };
 abbrev pub written : Datapath → Entry → ℕ → ℕ → ℕ → Datapath
 written k e d x b = moved_on (with_register k d x) e.predicted b
 
+abbrev pub device_value : DeviceRead → Option ℕ
+device_value Idle = None
+device_value (Waiting b) = None
+device_value (Answered b x) = Some x
+
 abbrev pub device_retired : Datapath → Entry → ℕ → DeviceRead → Datapath
 device_retired k e d Idle = k
 device_retired k e d (Waiting b) = k
@@ -84,7 +101,7 @@ abbrev pub with_buffer : Datapath → StoreBuffer → Datapath
 with_buffer k b = record { regs = k.regs; pc = k.pc; stores = b; device = k.device; window = k.window; requests = k.requests; fetches = k.fetches }
 
 abbrev pub store_retired : Datapath → Entry → Store → Datapath
-store_retired k e p = cond (nat_lt k.stores.count 8) (moved_on (with_buffer k (buffer_pushed k.stores p)) e.predicted (add k.pc 4)) k
+store_retired k e p = cond (nat_lt k.stores.count 8) (moved_on (with_buffer k (rings.pushed k.stores p)) e.predicted (add k.pc 4)) k
 
 abbrev pub store_done : Datapath → Option Retired
 store_done k = cond (nat_lt k.stores.count 8) (Some (plain_done k)) None
@@ -112,7 +129,7 @@ done k = given (entry_at k.window 0) None (λ e. given e.outcome None (outcome_d
 -- a store goes out
 abbrev pub drained : Datapath → Datapath
 drained k = cond (nat_lt 0 k.stores.count)
-    (record { regs = k.regs; pc = k.pc; stores = buffer_popped k.stores; device = k.device; window = k.window; requests = request_pushed k.requests Acknowledgment; fetches = k.fetches })
+    (record { regs = k.regs; pc = k.pc; stores = rings.popped k.stores; device = k.device; window = k.window; requests = queue_pushed k.requests Acknowledgment; fetches = k.fetches })
     k
 
 abbrev pub drain_request : Datapath → Option Request

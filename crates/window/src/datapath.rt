@@ -1,16 +1,16 @@
 // The state of a core with a window, but for its tables; and the machine's rules on it.
 ghost use Rattle.std.specs.Prelude.{◌≡◌};
-ghost use Rattle.window.specs.Entries.{with_word, with_left, with_right, with_loaded};
 ghost use Rattle.window.specs.Machine.{executed, forwarded, device_answered};
-ghost use Rattle.window.specs.Datapaths.{datapath_start, left_for, right_for, outcome_for, forward_by, forward_for, ruled, code_for, code_taken, data_for, data_taken, next_pc_of, redirect_to, redirected, wanted};
+ghost use Rattle.window.specs.Datapaths.{datapath_start, named, operand_for, left_for, right_for, outcome_for, forward_by, forward_for, ruled, Learns, code_for, code_taken, data_for, data_taken, next_pc_of, flushed, redirect_to, redirected, wanted};
 
-use crate::entry::{DeviceRead, Entry, Number, Source, Tag};
+use crate::entry::{DeviceRead, Entry, Number, Source, Store, Tag};
 use crate::known::{left_register, right_register, work};
 use crate::queues::{Fetches, Requests};
-use crate::ring::Ring;
+use crate::ring::{Window, operand, source};
 use crate::stores::StoreBuffer;
 use isa::devices::DEVICES;
 use isa::execute::Outcome;
+use isa::reg::Reg;
 use isa::regs::Regs;
 
 #[derive(Clone, Copy)]
@@ -19,60 +19,24 @@ pub struct Datapath {
     pub pc: u32,
     pub stores: StoreBuffer,
     pub device: DeviceRead,
-    pub window: Ring,
+    pub window: Window,
     pub requests: Requests,
     pub fetches: Fetches,
 }
 
 impl Entry {
-    fn with_word(self, x: u32) -> Entry
-        ensures { result ≡ with_word self x }
-    {
-        let mut e = self;
-        e.learn_word(x);
-        e
-    }
-
-    fn with_left(self, x: u32) -> Entry
-        ensures { result ≡ with_left self x }
-    {
-        let mut e = self;
-        e.learn_left(x);
-        e
-    }
-
-    fn with_right(self, x: u32) -> Entry
-        ensures { result ≡ with_right self x }
-    {
-        let mut e = self;
-        e.learn_right(x);
-        e
-    }
-
-    fn with_loaded(self, x: u32) -> Entry
-        ensures { result ≡ with_loaded self x }
-    {
-        let mut e = self;
-        e.learn_loaded(x);
-        e
-    }
-
     // With its outcome, if its word and its operands are there.
     fn executed(self) -> Option<Entry>
         ensures { result ≡ executed self }
     {
-        let word = self.word?;
-        let x = self.left?;
-        let y = self.right?;
-        let mut e = self;
-        e.learn_outcome(work(self.pc, word, x, y));
-        Some(e)
+        let outcome = work(self.pc, self.word?, self.left?, self.right?);
+        Some(self.with_outcome(outcome))
     }
 
     fn outcome_for(self) -> Option<Entry>
         ensures { result ≡ outcome_for self }
     {
-        if let Some(_) = self.outcome {
+        if self.outcome.is_some() {
             return None;
         }
         self.executed()
@@ -107,34 +71,39 @@ impl Datapath {
         Datapath {
             regs: Regs::new(),
             pc: address,
-            stores: StoreBuffer::start(),
+            stores: StoreBuffer::new(Store {
+                address: 0,
+                value: 0,
+            }),
             device: DeviceRead::Idle,
-            window: Ring::start(),
-            requests: Requests::start(),
-            fetches: Fetches::start(),
+            window: Window::new(Entry::new(0, 0)),
+            requests: Requests::new(Tag::Acknowledgment),
+            fetches: Fetches::new(None),
         }
+    }
+
+    // An operand of the n-th instruction, by the register that its word names: if it is not known yet, and can be.
+    fn operand_for(&self, n: u32, known: Option<u32>, register: Option<Reg>) -> Option<u32>
+        ensures { result ≡ operand_for self.now n known (named register) }
+    {
+        if known.is_some() {
+            return None;
+        }
+        operand(&self.window, &self.regs, register?, n)
     }
 
     // What the n-th instruction, which is e, learns by each rule.
     fn left_for(&self, n: u32, e: Entry) -> Option<Entry>
         ensures { result ≡ left_for self.now n e }
     {
-        if let Some(_) = e.left {
-            return None;
-        }
-        let word = e.word?;
-        let x = self.window.operand(&self.regs, left_register(word), n)?;
+        let x = self.operand_for(n, e.left, e.word.map(left_register))?;
         Some(e.with_left(x))
     }
 
     fn right_for(&self, n: u32, e: Entry) -> Option<Entry>
         ensures { result ≡ right_for self.now n e }
     {
-        if let Some(_) = e.right {
-            return None;
-        }
-        let word = e.word?;
-        let x = self.window.operand(&self.regs, right_register(word), n)?;
+        let x = self.operand_for(n, e.right, e.word.map(right_register))?;
         Some(e.with_right(x))
     }
 
@@ -142,12 +111,8 @@ impl Datapath {
         ensures { result ≡ forward_by self.now n e outcome }
     {
         match outcome {
-            Outcome::Load { address, .. } => {
-                if address >= DEVICES {
-                    None
-                } else {
-                    e.forwarded(self.window.source(&self.stores, address / 4, n))
-                }
+            Outcome::Load { address, .. } if address < DEVICES => {
+                e.forwarded(source(&self.window, &self.stores, address / 4, n))
             }
             _ => None,
         }
@@ -156,53 +121,46 @@ impl Datapath {
     fn forward_for(&self, n: u32, e: Entry) -> Option<Entry>
         ensures { result ≡ forward_for self.now n e }
     {
-        if let Some(_) = e.loaded {
+        if e.loaded.is_some() {
             return None;
         }
-        match e.outcome {
-            None => None,
-            Some(outcome) => self.forward_by(n, e, outcome),
+        self.forward_by(n, e, e.outcome?)
+    }
+
+    // The n-th instruction learns by a rule, if there is one.
+    fn learn<F: FnOnce(&Datapath, Entry) -> Option<Entry>>(&mut self, n: u32, rule: F)
+        requires { F.IsAlwaysCallable rule }
+        ensures { Learns (λ e o. (k : _) × (k.now ≡ self.old) × F.post rule k e o) self.old n self.new }
+    {
+        if let Some(e) = self.window.get(n)
+            && let Some(d) = rule(self, e)
+        {
+            self.window.put(n, d);
         }
     }
 
     pub fn read_left(&mut self, n: u32)
         ensures { self.new ≡ ruled left_for self.old n }
     {
-        if let Some(e) = self.window.get(n) {
-            if let Some(d) = self.left_for(n, e) {
-                self.window.put(n, d);
-            }
-        }
+        self.learn(n, |path, e| path.left_for(n, e));
     }
 
     pub fn read_right(&mut self, n: u32)
         ensures { self.new ≡ ruled right_for self.old n }
     {
-        if let Some(e) = self.window.get(n) {
-            if let Some(d) = self.right_for(n, e) {
-                self.window.put(n, d);
-            }
-        }
+        self.learn(n, |path, e| path.right_for(n, e));
     }
 
     pub fn execute(&mut self, n: u32)
         ensures { self.new ≡ ruled (λ _ _ e. outcome_for e) self.old n }
     {
-        if let Some(e) = self.window.get(n) {
-            if let Some(d) = e.outcome_for() {
-                self.window.put(n, d);
-            }
-        }
+        self.learn(n, |_, e| e.outcome_for());
     }
 
     pub fn forward(&mut self, n: u32)
         ensures { self.new ≡ ruled forward_for self.old n }
     {
-        if let Some(e) = self.window.get(n) {
-            if let Some(d) = self.forward_for(n, e) {
-                self.window.put(n, d);
-            }
-        }
+        self.learn(n, |path, e| path.forward_for(n, e));
     }
 
     // A word of code that came, for an instruction at work or for nobody.
@@ -210,9 +168,7 @@ impl Datapath {
         ensures { self.new ≡ code_for self.old x fetch }
     {
         if let Some(number) = fetch {
-            if let Some(e) = self.window.get(number.0) {
-                self.window.put(number.0, e.with_word(x));
-            }
+            self.learn(number.0, |_, e| Some(e.with_word(x)));
         }
     }
 
@@ -220,7 +176,7 @@ impl Datapath {
         ensures { self.new ≡ code_taken self.old x }
     {
         if let Some(fetch) = self.fetches.oldest() {
-            self.fetches.pop();
+            self.fetches.shift(None);
             self.code_for(x, fetch);
         }
     }
@@ -232,9 +188,7 @@ impl Datapath {
         match tag {
             Tag::Acknowledgment | Tag::Stale => {}
             Tag::Load(number) => {
-                if let Some(e) = self.window.get(number.0) {
-                    self.window.put(number.0, e.with_loaded(x));
-                }
+                self.learn(number.0, |_, e| Some(e.with_loaded(x)));
             }
             Tag::Device => {
                 self.device = self.device.answered(x);
@@ -246,22 +200,29 @@ impl Datapath {
         ensures { self.new ≡ data_taken self.old x }
     {
         if let Some(tag) = self.requests.oldest() {
-            self.requests.pop();
+            self.requests.shift(Tag::Acknowledgment);
             self.data_for(x, tag);
         }
+    }
+
+    // The instructions from n on are flushed.
+    pub(crate) fn flush(&mut self, n: u32)
+        ensures { self.new ≡ flushed self.old n }
+    {
+        self.window.cut(n);
+        self.requests = self.requests.map(|tag| tag.kept(n));
+        self.fetches = self
+            .fetches
+            .map(|fetch| fetch.and_then(|number| number.kept(n)));
     }
 
     // The n-th instruction, which is e, is predicted to be followed by `next`: what is younger is flushed.
     fn redirect_to(&mut self, n: u32, next: u32, e: Entry)
         ensures { self.new ≡ redirect_to self.old n next e }
     {
-        let mut d = e;
-        d.predict(next);
         let m = n.wrapping_add(1);
-        self.window.put(n, d);
-        self.window.cut(m);
-        self.requests.flushed(m);
-        self.fetches.flushed(m);
+        self.window.put(n, e.with_predicted(next));
+        self.flush(m);
     }
 
     pub fn redirect(&mut self, n: u32, next: u32)
@@ -276,10 +237,8 @@ impl Datapath {
     pub fn next_pc(&self) -> u32
         ensures { result ≡ next_pc_of self.now }
     {
-        match self.window.get(self.window.count.saturating_sub(1)) {
-            None => self.pc,
-            Some(e) => e.predicted,
-        }
+        let youngest = self.window.get(self.window.count.saturating_sub(1));
+        youngest.map_or(self.pc, |e| e.predicted)
     }
 
     // The next word of code is wanted, and `predicted` to be followed by another.
@@ -288,7 +247,11 @@ impl Datapath {
     {
         let number = Number(self.window.count);
         let pc = self.next_pc();
-        self.window.push(Entry::new(pc, predicted));
-        self.fetches.push(number);
+        if !self.window.full() {
+            self.window.push(Entry::new(pc, predicted));
+        }
+        if !self.fetches.full() {
+            self.fetches.push(Some(number));
+        }
     }
 }

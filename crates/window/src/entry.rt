@@ -3,7 +3,7 @@ use isa::execute::Outcome;
 
 // One instruction at work: its address, where the next is predicted to be, and what is known of it so far: its word, its
 // two operands, its outcome, and the word of data that it loads.
-#[derive(Clone, Copy)]
+#[derive(Clone, Copy, PartialEq, Eq)]
 pub struct Entry {
     pub pc: u32,
     pub predicted: u32,
@@ -15,12 +15,12 @@ pub struct Entry {
 }
 
 // An instruction's number in the window: 0 is the oldest.
-#[derive(Clone, Copy)]
+#[derive(Clone, Copy, PartialEq, Eq)]
 pub struct Number(pub u32);
 
 // What an open request is for: a store's acknowledgment; the load of an instruction at work; an instruction that was
 // flushed; the device that the oldest reads.
-#[derive(Clone, Copy)]
+#[derive(Clone, Copy, PartialEq, Eq)]
 pub enum Tag {
     Acknowledgment,
     Load(Number),
@@ -29,14 +29,14 @@ pub enum Tag {
 }
 
 // A store that is retired and waits to be requested.
-#[derive(Clone, Copy)]
+#[derive(Clone, Copy, PartialEq, Eq)]
 pub struct Store {
     pub address: u32,
     pub value: u32,
 }
 
 // The oldest's reading of a device: not requested; requested; answered.
-#[derive(Clone, Copy)]
+#[derive(Clone, Copy, PartialEq, Eq)]
 pub enum DeviceRead {
     Idle,
     Waiting { address: u32 },
@@ -44,7 +44,7 @@ pub enum DeviceRead {
 }
 
 // Where a load finds its word: not known yet, since an older store may be to it; in memory; with a store before it.
-#[derive(Clone, Copy)]
+#[derive(Clone, Copy, PartialEq, Eq)]
 pub enum Source {
     Unknown,
     Memory,

@@ -31,60 +31,46 @@ pub fn target(instr: Instr) -> Reg
 fn stores(instr: Instr) -> bool
     ensures { result ≡ is_store instr }
 {
-    match instr {
-        Instr::Store { .. } => true,
-        _ => false,
-    }
+    matches!(instr, Instr::Store { .. })
 }
 
 // The registers that a word reads and writes, or x0.
 pub fn left_register(word: u32) -> Reg
     ensures { result.number ≡ left_register word }
 {
-    match decode(word) {
-        None => Reg { number: 0 },
-        Some(instr) => instr.rs1(),
-    }
+    decode(word).map_or(Reg { number: 0 }, Instr::rs1)
 }
 
 pub fn right_register(word: u32) -> Reg
     ensures { result.number ≡ right_register word }
 {
-    match decode(word) {
-        None => Reg { number: 0 },
-        Some(instr) => instr.rs2(),
-    }
+    decode(word).map_or(Reg { number: 0 }, Instr::rs2)
 }
 
 pub fn written_register(word: u32) -> Reg
     ensures { result.number ≡ written_register word }
 {
-    match decode(word) {
-        None => Reg { number: 0 },
-        Some(instr) => target(instr),
-    }
+    decode(word).map_or(Reg { number: 0 }, target)
 }
 
 fn may_store(word: u32) -> bool
     ensures { result ≡ may_store word }
 {
-    match decode(word) {
-        None => false,
-        Some(instr) => stores(instr),
-    }
+    decode(word).is_some_and(stores)
 }
 
 // What a word does at its address and the values of its operands.
+#[tactic(auto, unfolding(crate::specs::Operands::work_with))]
 pub fn work(pc: u32, word: u32, x: u32, y: u32) -> Outcome
     ensures { result ≡ work_with pc word x y }
 {
     if pc % 4 != 0 {
         return Outcome::Halt(Stop::Misaligned);
     }
-    match decode(word) {
-        None => Outcome::Halt(Stop::Illegal),
-        Some(instr) => execute(instr, pc, x, y),
-    }
+    decode(word).map_or(
+        Outcome::Halt(Stop::Illegal),
+        |instr| execute(instr, pc, x, y),
+    )
 }
 
 // May it write the register?
@@ -92,10 +78,8 @@ fn outcome_writes(outcome: Outcome, r: Reg) -> bool
     ensures { result ≡ hits_outcome r.number outcome }
 {
     match outcome {
-        Outcome::Write { rd, .. } => rd.number == r.number,
-        Outcome::Jump { .. } => false,
-        Outcome::Load { rd, .. } => rd.number == r.number,
-        Outcome::Store { .. } => false,
+        Outcome::Write { rd, .. } | Outcome::Load { rd, .. } => rd == r,
+        Outcome::Jump { .. } | Outcome::Store { .. } => false,
         Outcome::Halt(_) => true,
     }
 }
@@ -116,12 +100,8 @@ fn stored(outcome: Outcome, number: u32) -> Option<Source>
     ensures { result ≡ stored number outcome }
 {
     match outcome {
-        Outcome::Store { address, value } => {
-            if address >= DEVICES || address / 4 != number {
-                None
-            } else {
-                Some(Source::Forwarded(value))
-            }
+        Outcome::Store { address, value } if address < DEVICES && address / 4 == number => {
+            Some(Source::Forwarded(value))
         }
         _ => None,
     }
@@ -143,40 +123,59 @@ impl Entry {
         }
     }
 
-    pub fn learn_word(&mut self, x: u32)
-        ensures { self.new ≡ with_word self.old x }
+    pub fn with_word(self, x: u32) -> Entry
+        ensures { result ≡ with_word self x }
     {
-        self.word = Some(x);
+        Entry {
+            word: Some(x),
+            ..self
+        }
     }
 
-    pub fn learn_left(&mut self, x: u32)
-        ensures { self.new ≡ with_left self.old x }
+    pub fn with_left(self, x: u32) -> Entry
+        ensures { result ≡ with_left self x }
     {
-        self.left = Some(x);
+        Entry {
+            left: Some(x),
+            ..self
+        }
     }
 
-    pub fn learn_right(&mut self, x: u32)
-        ensures { self.new ≡ with_right self.old x }
+    pub fn with_right(self, x: u32) -> Entry
+        ensures { result ≡ with_right self x }
     {
-        self.right = Some(x);
+        Entry {
+            right: Some(x),
+            ..self
+        }
     }
 
-    pub fn learn_outcome(&mut self, o: Outcome)
-        ensures { self.new ≡ with_outcome self.old o }
+    pub fn with_outcome(self, o: Outcome) -> Entry
+        ensures { result ≡ with_outcome self o }
     {
-        self.outcome = Some(o);
+        Entry {
+            outcome: Some(o),
+            ..self
+        }
     }
 
-    pub fn learn_loaded(&mut self, x: u32)
-        ensures { self.new ≡ with_loaded self.old x }
+    pub fn with_loaded(self, x: u32) -> Entry
+        ensures { result ≡ with_loaded self x }
     {
-        self.loaded = Some(x);
+        Entry {
+            loaded: Some(x),
+            ..self
+        }
     }
 
-    pub fn predict(&mut self, next: u32)
-        ensures { self.new ≡ with_predicted self.old next }
+    // Another prediction of where the next is.
+    pub fn with_predicted(self, next: u32) -> Entry
+        ensures { result ≡ with_predicted self next }
     {
-        self.predicted = next;
+        Entry {
+            predicted: next,
+            ..self
+        }
     }
 
     // May it write the register?
@@ -185,10 +184,7 @@ impl Entry {
     {
         match self.outcome {
             Some(outcome) => outcome_writes(outcome, r),
-            None => match self.word {
-                None => true,
-                Some(word) => written_register(word).number == r.number,
-            },
+            None => self.word.is_none_or(|word| written_register(word) == r),
         }
     }
 
@@ -196,10 +192,7 @@ impl Entry {
     pub fn result(&self) -> Option<u32>
         ensures { result ≡ leaves self.now }
     {
-        match self.outcome {
-            Some(outcome) => outcome_result(outcome, self.loaded),
-            None => None,
-        }
+        outcome_result(self.outcome?, self.loaded)
     }
 
     // Where a load behind it finds the word of data with this number, if that is up to this instruction.
@@ -208,16 +201,7 @@ impl Entry {
     {
         match self.outcome {
             Some(outcome) => stored(outcome, number),
-            None => match self.word {
-                None => Some(Source::Unknown),
-                Some(word) => {
-                    if may_store(word) {
-                        Some(Source::Unknown)
-                    } else {
-                        None
-                    }
-                }
-            },
+            None => self.word.is_none_or(may_store).then_some(Source::Unknown),
         }
     }
 }

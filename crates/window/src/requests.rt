@@ -1,9 +1,13 @@
 // Requests for loads and devices, and whether the core has stopped: the machine's rules on the datapath.
 ghost use Rattle.std.specs.Prelude.{◌≡◌};
+ghost use Rattle.window.specs.Rings.{outcome_at};
+ghost use Rattle.window.specs.Queues.{queue_pushed};
+ghost use Rattle.window.specs.Datapaths.{with_tags};
 ghost use Rattle.window.specs.Asking.{memory_at, load_at, load_address, load_asked, read_of, free, device_at, device_address, device_asked, halt_at, halts};
 
 use crate::datapath::Datapath;
 use crate::entry::{DeviceRead, Number, Source, Tag};
+use crate::ring::source;
 use isa::devices::DEVICES;
 use isa::execute::{Outcome, Stop};
 use pins::ports::Request;
@@ -11,33 +15,33 @@ use pins::ports::Request;
 fn memory_at(address: u32, source: Source) -> Option<u32>
     ensures { result ≡ memory_at address source }
 {
-    match source {
-        Source::Memory => Some(address),
-        _ => None,
-    }
-}
-
-fn read_of(address: Option<u32>) -> Option<Request>
-    ensures { result ≡ read_of address }
-{
-    match address {
-        None => None,
-        Some(address) => Some(Request::Read { address }),
-    }
+    matches!(source, Source::Memory).then_some(address)
 }
 
 impl Datapath {
+    // One more open request; with four open none is added.
+    pub(crate) fn open(&mut self, tag: Tag)
+        ensures { self.new ≡ with_tags self.old (queue_pushed self.old.requests tag) }
+    {
+        if !self.requests.full() {
+            self.requests.push(tag);
+        }
+    }
+
+    // The n-th instruction's outcome, once it has one.
+    fn outcome(&self, n: u32) -> Option<Outcome>
+        ensures { result ≡ outcome_at self.now.window n }
+    {
+        self.window.get(n)?.outcome
+    }
+
     // The address that the n-th instruction's load can be asked for at, by its outcome.
     fn load_at(&self, n: u32, outcome: Outcome) -> Option<u32>
         ensures { result ≡ load_at self.now n outcome }
     {
         match outcome {
-            Outcome::Load { address, .. } => {
-                if address >= DEVICES {
-                    None
-                } else {
-                    memory_at(address, self.window.source(&self.stores, address / 4, n))
-                }
+            Outcome::Load { address, .. } if address < DEVICES => {
+                memory_at(address, source(&self.window, &self.stores, address / 4, n))
             }
             _ => None,
         }
@@ -46,9 +50,7 @@ impl Datapath {
     fn load_address(&self, n: u32) -> Option<u32>
         ensures { result ≡ load_address self.now n }
     {
-        let e = self.window.get(n)?;
-        let outcome = e.outcome?;
-        self.load_at(n, outcome)
+        self.load_at(n, self.outcome(n)?)
     }
 
     // The load of the n-th instruction is asked for, if its word is in memory.
@@ -56,34 +58,23 @@ impl Datapath {
         ensures core { self.new ≡ load_asked self.old n }
         ensures asks { result ≡ read_of (load_address self.old n) }
     {
-        let address = self.load_address(n);
-        if let Some(_) = address {
-            self.requests.push(Tag::Load(Number(n)));
-        }
-        read_of(address)
+        let address = self.load_address(n)?;
+        self.open(Tag::Load(Number(n)));
+        Some(Request::Read { address })
     }
 
     // No store waits, and no device is read.
     fn free(&self) -> bool
         ensures { result ≡ free self.now }
     {
-        match self.device {
-            DeviceRead::Idle => self.stores.count == 0,
-            _ => false,
-        }
+        self.device == DeviceRead::Idle && self.stores.count == 0
     }
 
     fn device_at(&self, outcome: Outcome) -> Option<u32>
         ensures { result ≡ device_at self.now outcome }
     {
         match outcome {
-            Outcome::Load { address, .. } => {
-                if address >= DEVICES && self.free() {
-                    Some(address)
-                } else {
-                    None
-                }
-            }
+            Outcome::Load { address, .. } if address >= DEVICES && self.free() => Some(address),
             _ => None,
         }
     }
@@ -91,9 +82,7 @@ impl Datapath {
     fn device_address(&self) -> Option<u32>
         ensures { result ≡ device_address self.now }
     {
-        let e = self.window.get(0)?;
-        let outcome = e.outcome?;
-        self.device_at(outcome)
+        self.device_at(self.outcome(0)?)
     }
 
     // The device that the oldest reads is asked.
@@ -101,19 +90,17 @@ impl Datapath {
         ensures core { self.new ≡ device_asked self.old }
         ensures asks { result ≡ read_of (device_address self.old) }
     {
-        let asked = self.device_address();
-        if let Some(address) = asked {
-            self.device = DeviceRead::Waiting { address };
-            self.requests.push(Tag::Device);
-        }
-        read_of(asked)
+        let address = self.device_address()?;
+        self.device = DeviceRead::Waiting { address };
+        self.open(Tag::Device);
+        Some(Request::Read { address })
     }
 
     fn halt_at(&self, outcome: Outcome) -> Option<Stop>
         ensures { result ≡ halt_at self.now outcome }
     {
         match outcome {
-            Outcome::Halt(stop) => { if self.free() { Some(stop) } else { None } }
+            Outcome::Halt(stop) if self.free() => Some(stop),
             _ => None,
         }
     }
@@ -122,8 +109,6 @@ impl Datapath {
     pub fn halted(&self) -> Option<Stop>
         ensures { result ≡ halts self.now }
     {
-        let e = self.window.get(0)?;
-        let outcome = e.outcome?;
-        self.halt_at(outcome)
+        self.halt_at(self.outcome(0)?)
     }
 }

@@ -1,26 +1,45 @@
 // Retiring the oldest instruction, and requests: the machine's rules on the datapath.
 ghost use Rattle.std.specs.Prelude.{◌≡◌};
-ghost use Rattle.window.specs.Retiring.{moved_on, write_done, plain_done, written, device_retired, device_done, load_retired, load_done, store_retired, store_done, outcome_retired, outcome_done, retired, done, drained, drain_request};
+ghost use Rattle.window.specs.Retiring.{numbers_popped, moved_on, write_done, plain_done, written, device_value, load_retired, load_done, store_retired, store_done, outcome_retired, outcome_done, retired, done, drained, drain_request};
 
 use crate::datapath::Datapath;
-use crate::entry::{DeviceRead, Entry, Store, Tag};
+use crate::entry::{DeviceRead, Entry, Number, Store, Tag};
 use isa::execute::Outcome;
 use isa::reg::Reg;
 use pins::ports::{Request, Retired};
 
+impl DeviceRead {
+    // What the device answered, once it has.
+    fn value(self) -> Option<u32>
+        ensures { result ≡ device_value self }
+    {
+        match self {
+            DeviceRead::Answered { value, .. } => Some(value),
+            _ => None,
+        }
+    }
+}
+
 impl Datapath {
+    // The oldest leaves the window: in the queues each number is one less.
+    fn pop_numbers(&mut self)
+        ensures { self.new ≡ numbers_popped self.old }
+    {
+        self.requests = self.requests.map(|tag| tag.popped());
+        self.fetches = self.fetches.map(|fetch| fetch.and_then(Number::popped));
+    }
+
     // It goes on at `next`: after a right prediction the younger ones stay, after a wrong one they are flushed.
     fn move_on(&mut self, predicted: u32, next: u32)
         ensures { self.new ≡ moved_on self.old predicted next }
     {
         if next == predicted {
-            self.window.pop();
-            self.requests.retired();
-            self.fetches.retired();
+            self.pop_numbers();
+            if self.window.count > 0 {
+                self.window.pop();
+            }
         } else {
-            self.window.cut(0);
-            self.requests.flushed(0);
-            self.fetches.flushed(0);
+            self.flush(0);
         }
         self.pc = next;
         self.device = DeviceRead::Idle;
@@ -30,28 +49,10 @@ impl Datapath {
     fn write_done(&self, rd: Reg, value: u32) -> Retired
         ensures { result ≡ write_done self.now rd.number value }
     {
-        if rd.number == 0 {
-            Retired {
-                pc: self.pc,
-                reg: 0,
-                value: 0,
-            }
-        } else {
-            Retired {
-                pc: self.pc,
-                reg: rd.number as u32,
-                value,
-            }
-        }
-    }
-
-    fn plain_done(&self) -> Retired
-        ensures { result ≡ plain_done self.now }
-    {
         Retired {
             pc: self.pc,
-            reg: 0,
-            value: 0,
+            reg: u32::from(rd.number),
+            value: if rd.number == 0 { 0 } else { value },
         }
     }
 
@@ -69,35 +70,18 @@ impl Datapath {
         ensures core { self.new ≡ moved_on self.old e.predicted next }
         ensures shows { result ≡ plain_done self.old }
     {
-        let shown = self.plain_done();
+        let shown = self.write_done(Reg { number: 0 }, 0);
         self.move_on(e.predicted, next);
         shown
     }
 
-    // A load from a device, once it is answered.
-    fn retire_device(&mut self, e: Entry, rd: Reg) -> Option<Retired>
-        ensures core { self.new ≡ device_retired self.old e rd.number self.old.device }
-        ensures shows { result ≡ device_done self.old rd.number self.old.device }
-    {
-        match self.device {
-            DeviceRead::Answered { value, .. } => Some(self.retire_write(
-                e,
-                rd,
-                value,
-                self.pc.wrapping_add(4),
-            )),
-            _ => None,
-        }
-    }
-
+    // A load, once its word is there: from memory or an older store, or from the device.
     fn retire_load(&mut self, e: Entry, rd: Reg) -> Option<Retired>
         ensures core { self.new ≡ load_retired self.old e rd.number e.loaded }
         ensures shows { result ≡ load_done self.old rd.number e.loaded }
     {
-        match e.loaded {
-            Some(value) => Some(self.retire_write(e, rd, value, self.pc.wrapping_add(4))),
-            None => self.retire_device(e, rd),
-        }
+        let value = e.loaded.or(self.device.value())?;
+        Some(self.retire_write(e, rd, value, self.pc.wrapping_add(4)))
     }
 
     // A store, if the buffer has room for it.
@@ -131,13 +115,8 @@ impl Datapath {
         ensures core { self.new ≡ retired self.old }
         ensures shows { result ≡ done self.old }
     {
-        let Some(e) = self.window.get(0) else {
-            return None;
-        };
-        let Some(outcome) = e.outcome else {
-            return None;
-        };
-        self.retire_outcome(e, outcome)
+        let e = self.window.get(0)?;
+        self.retire_outcome(e, e.outcome?)
     }
 
     // The oldest waiting store goes out.
@@ -148,7 +127,7 @@ impl Datapath {
         if self.stores.count > 0 {
             let store = self.stores.entry(0);
             self.stores.pop();
-            self.requests.push(Tag::Acknowledgment);
+            self.open(Tag::Acknowledgment);
             Some(Request::Write {
                 address: store.address,
                 value: store.value,

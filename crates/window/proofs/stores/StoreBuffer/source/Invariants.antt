@@ -1,9 +1,0 @@
-use Rattle.std.proofs.Common.{◌≡◌}
-use Rattle.window.specs.Rings.{row_below}
-use Rattle.window.proofs.stores.StoreBuffer.source.Given as goal
-
-abbrev pub invariant-search : goal.invariant-search
-invariant-search l = row_below l.self l.number l.self.count ≡ row_below l.self l.number l.n
-
-abbrev pub decreases-search : goal.decreases-search
-decreases-search l = l.n
