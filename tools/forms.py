@@ -44,10 +44,10 @@ def functions(file, text):
             continue
         indent, name = m.groups()
         head, j = [line], i
-        while not (lines[j] == indent + '{' or re.match(r'(?!\s*(?:ensures|requires)\b).*\{$', lines[j])) and not lines[j].endswith(';'):
+        while not re.match(r'(?!\s*(?:ensures|requires)\b).*(\{|\{\}|;)$', lines[j]):
             j += 1
             head.append(lines[j])
-        if lines[j].endswith(';'):
+        if not lines[j].endswith('{'):
             continue
         k = j + 1
         while lines[k] != indent + '}':

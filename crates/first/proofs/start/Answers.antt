@@ -9,7 +9,7 @@ use Rattle.first.proofs.AlwaysRight.{parts}
 use Rattle.first.proofs.Posts.{started}
 use Rattle.first.proofs.start.Goals as goal
 
-pub returns-then-core-lt-CORE_WORDS : goal.returns-then-core-lt-LENT
+pub returns-then-core-lt-CORE_WORDS : goal.returns-then-core-lt-CORE_WORDS
 returns-then-core-lt-CORE_WORDS c = record { post = started refl (search rules); parts = parts }
 
 pub returns : goal.returns
