@@ -1,17 +1,15 @@
 -- The history of a run, step by step.
-use Rattle.std.proofs.Common.{◌≡◌, ℕ, suc, ◌+◌, ◌-◌, ◌<◌, ◌≤◌, true, List, [], ◌∷◌, ◌++◌, is_err, Ok, Err, Option, Result, sym, ap, ◌∙◌, subst, true≢false, add-one, arith}
+use Rattle.std.proofs.Common.{◌≡◌, ℕ, suc, ◌+◌, ◌-◌, ◌<◌, ◌≤◌, true, List, [], ◌∷◌, ◌++◌, is_err, None, Ok, Err, Option, Result, sym, ap, ◌∙◌, subst, true≢false, add-one, arith}
 use Rattle.isa.specs.Manual.{Code, S, Next, goes, stops, step, Run, run}
 use Rattle.isa.specs.Runs.{At, with_step}
 use Rattle.isa.proofs.RunSteps.{at_zero, at_suc, rets_suc, evs_suc, run_laws}
 use Rattle.reference.specs.declared.history.History.{History}
 use Rattle.reference.specs.declared.machine.Machine.{Machine}
 use Rattle.pins.specs.declared.ports.Retired.{Retired}
-use Rattle.reference.specs.declared.trace.Step.{Step}
+use Rattle.reference.specs.declared.trace.Halt.{Halt}
 use Rattle.reference.specs.declared.trace.Effect.{Effect}
-use Rattle.reference.specs.declared.trace.End.{End}
-use Rattle.reference.specs.declared.trace.End.TheVariants.{Running}
 use Rattle.pins.specs.PortWords.{ret_of}
-use Rattle.reference.specs.Machine.{events_of, next_of, StepsTo}
+use Rattle.reference.specs.Machine.{Step, events_of, next_of, StepsTo}
 use Rattle.reference.specs.History.{rets_of, evs_of, Ends, HistoryOf, RunsTo}
 
 -- a history in the middle of a run
@@ -19,16 +17,16 @@ pub record SoFar (h : History) (c : Code) (s : S) (n : ℕ) (u : S) : Type 0 whe
   pub rets : rets_of h ≡ (run c s n).rets
   pub evs : evs_of h ≡ (run c s n).evs
   pub at : At c s n u
-  pub running : h.end ≡ Running
+  pub running : h.end ≡ None
 
-pub none_yet : {h : History} (c : Code) (s : S) → rets_of h ≡ [] → evs_of h ≡ [] → h.end ≡ Running → SoFar h c s 0 s
+pub none_yet : {h : History} (c : Code) (s : S) → rets_of h ≡ [] → evs_of h ≡ [] → h.end ≡ None → SoFar h c s 0 s
 none_yet c s er ee ed = record { rets = er; evs = ee; at = at_zero; running = ed }
 
 pub all_done : {h : History} {c : Code} {s u : S} {n m : ℕ} → SoFar h c s n u → n ≡ m → HistoryOf h c s m u
 all_done {h} {c} {s} {u} {n} p e = subst (λ k. HistoryOf h c s k u) e all
   where
     all : HistoryOf h c s n u
-    all = record { rets = p.rets; evs = p.evs; ends = subst (λ (x : End). Ends x c s n u) (sym p.running) p.at }
+    all = record { rets = p.rets; evs = p.evs; ends = subst (λ (x : Option Halt). Ends x c s n u) (sym p.running) p.at }
 
 -- what came of a step, in the manual
 pub came : {k j : Step} {m u : Machine} {answers : List ℕ} {n : Next} → k ≡ j → StepsTo k m u answers n → next_of j u answers ≡ n
@@ -58,11 +56,11 @@ module _ {h : History} {c : Code} {s u : S} {n : ℕ} (p : SoFar h c s n u) (g :
       ap (run c s) q ∙ run_laws.stays c s (suc n) (ap (λ (r : Run). r.is) e) (m - suc n) ∙ e
 
   pub ended : {k : ℕ} → stops k ≡ step c u → (m : ℕ) → n < m → rets_of g ≡ rets_of h → evs_of g ≡ evs_of h
-      → (x : End) → g.end ≡ x → (v : S) → ((run c s m).is ≡ stops k → Ends x c s m v) → HistoryOf g c s m v
+      → (x : Option Halt) → g.end ≡ x → (v : S) → ((run c s m).is ≡ stops k → Ends x c s m v) → HistoryOf g c s m v
   ended w m l er ee x ed v f =
       let e = run_ended w m l in
       record {
         rets = er ∙ p.rets ∙ sym (ap (λ (r : Run). r.rets) e);
         evs = ee ∙ p.evs ∙ sym (ap (λ (r : Run). r.evs) e);
-        ends = subst (λ (y : End). Ends y c s m v) (sym ed) (f (ap (λ (r : Run). r.is) e));
+        ends = subst (λ (y : Option Halt). Ends y c s m v) (sym ed) (f (ap (λ (r : Run). r.is) e));
       }

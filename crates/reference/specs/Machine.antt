@@ -8,8 +8,9 @@ use Rattle.reference.specs.declared.machine.Machine.{Machine}
 use Rattle.pins.specs.declared.ports.Retired.{Retired}
 use Rattle.reference.specs.declared.trace.Effect.{Effect}
 use Rattle.reference.specs.declared.trace.Effect.TheVariants.{Write, Ask}
-use Rattle.reference.specs.declared.trace.Step.{Step}
-use Rattle.reference.specs.declared.trace.Step.TheVariants.{Done, Stopped, NoAnswer}
+use Rattle.reference.specs.declared.trace.Done.{Done}
+use Rattle.reference.specs.declared.trace.Halt.{Halt}
+use Rattle.reference.specs.declared.trace.Halt.TheVariants.{Stopped, NoAnswer}
 use Rattle.pins.specs.PortWords.{ret_of}
 use Rattle.reference.specs.Memory.{words_of}
 
@@ -42,17 +43,23 @@ abbrev pub events_of : Option Effect → List Ev
 events_of None = []
 events_of (Some e) = event_of e ∷ []
 
+-- as what the manual stops
+abbrev pub halts : Halt → ℕ
+halts (Stopped h) = how h
+halts NoAnswer = 3
+
+abbrev pub Step : Type 0
+Step = Result Done Halt
+
 -- what a step is in the manual, with the machine after it
 abbrev pub next_of : Step → Machine → List ℕ → Next
-next_of (Done t e) m answers = goes (state m answers) (ret_of t) (events_of e)
-next_of (Stopped h) m answers = stops (how h)
-next_of NoAnswer m answers = stops 3
+next_of (Ok d) m answers = goes (state m answers) (ret_of d.trace) (events_of d.effect)
+next_of (Err h) m answers = stops (halts h)
 
 -- where no instruction is done, the state is as it was
 abbrev pub Stays : Step → S → S → Type 0
-Stays (Done t e) s u = Unit {0}
-Stays (Stopped h) s u = u ≡ s
-Stays NoAnswer s u = u ≡ s
+Stays (Ok d) s u = Unit {0}
+Stays (Err h) s u = u ≡ s
 
 -- a step from one machine to another is the manual's
 pub record StepsTo (k : Step) (m u : Machine) (answers : List ℕ) (n : Next) : Type 0 where

@@ -1,10 +1,10 @@
 // What a run did: its traces, what it did to the outside, and how it ended.
-ghost use Rattle.std.specs.Prelude.{◌≡◌, [], ◌∷◌, ◌++◌, OnOk};
+ghost use Rattle.std.specs.Prelude.{◌≡◌, [], ◌∷◌, ◌++◌, Some, None, OnOk};
 ghost use Rattle.pins.specs.PortWords.{ret_of};
 ghost use Rattle.reference.specs.Machine.{events_of};
 ghost use Rattle.reference.specs.History.{rets_of, evs_of};
 
-use crate::trace::{Effect, End};
+use crate::trace::{Effect, Halt};
 use pins::ports::Retired;
 use std::alloc::{AllocError, Global};
 
@@ -12,19 +12,20 @@ use std::alloc::{AllocError, Global};
 pub struct History {
     pub traces: Vec<Retired>,
     pub effects: Vec<Effect>,
-    pub end: End,
+    // Why it ended, if before it had done as many instructions as it was to do.
+    pub end: Option<Halt>,
 }
 
 impl History {
     pub(crate) fn new(heap: Global) -> History
         ensures traces { rets_of result ≡ [] }
         ensures effects { evs_of result ≡ [] }
-        ensures end { result.end ≡ End.Running }
+        ensures end { result.end ≡ None }
     {
         History {
             traces: Vec::new(heap),
             effects: Vec::new(heap),
-            end: End::Running,
+            end: None,
         }
     }
 
@@ -42,11 +43,14 @@ impl History {
     }
 
     // The same, ended so.
-    pub(crate) fn ended(self, end: End) -> History
+    pub(crate) fn ended(self, halt: Halt) -> History
         ensures traces { rets_of result ≡ rets_of self }
         ensures effects { evs_of result ≡ evs_of self }
-        ensures end { result.end ≡ end }
+        ensures end { result.end ≡ Some halt }
     {
-        History { end, ..self }
+        History {
+            end: Some(halt),
+            ..self
+        }
     }
 }

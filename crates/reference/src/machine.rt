@@ -8,7 +8,7 @@ ghost use Rattle.reference.specs.Machine.{started, state, written, moved, traced
 
 use crate::history::History;
 use crate::memory::Memory;
-use crate::trace::{Effect, End, Step};
+use crate::trace::{Done, Effect, Halt, Step};
 use isa::devices::DEVICES;
 use isa::execute::{Outcome, perform};
 use isa::reg::Reg;
@@ -73,14 +73,14 @@ impl Machine {
         ensures { StepsTo result self.old self.new answers.now (asked (state self.old answers.now) rd.number address (drop self.old.used answers.now)) }
     {
         let Some(value) = answers.get(self.used) else {
-            return Step::NoAnswer;
+            return Err(Halt::NoAnswer);
         };
         self.used += 1;
         let next = self.pc.wrapping_add(4);
-        Step::Done {
+        Ok(Done {
             trace: self.write(rd, *value, next),
             effect: Some(Effect::Ask { address }),
-        }
+        })
     }
 
     fn load(&mut self, rd: Reg, address: u32, answers: &[u32]) -> Step
@@ -91,10 +91,10 @@ impl Machine {
         }
         let value = self.memory.get(address / 4);
         let next = self.pc.wrapping_add(4);
-        Step::Done {
+        Ok(Done {
             trace: self.write(rd, value, next),
             effect: None,
-        }
+        })
     }
 
     // On an error nothing was done.
@@ -105,10 +105,10 @@ impl Machine {
             self.memory.set(address / 4, value)?;
         }
         let next = self.pc.wrapping_add(4);
-        Ok(Step::Done {
+        Ok(Ok(Done {
             trace: self.jump(next),
             effect: Some(Effect::Write { address, value }),
-        })
+        }))
     }
 
     // On an error, for want of memory, nothing was done.
@@ -116,17 +116,17 @@ impl Machine {
         ensures { TriesTo result self.old self.new answers.now (enact (state self.old answers.now) outcome) }
     {
         match outcome {
-            Outcome::Write { rd, value, next } => Ok(Step::Done {
+            Outcome::Write { rd, value, next } => Ok(Ok(Done {
                 trace: self.write(rd, value, next),
                 effect: None,
-            }),
-            Outcome::Jump { next } => Ok(Step::Done {
+            })),
+            Outcome::Jump { next } => Ok(Ok(Done {
                 trace: self.jump(next),
                 effect: None,
-            }),
+            })),
             Outcome::Load { rd, address } => Ok(self.load(rd, address, answers)),
             Outcome::Store { address, value } => self.store(address, value),
-            Outcome::Halt(stop) => Ok(Step::Stopped(stop)),
+            Outcome::Halt(stop) => Ok(Err(Halt::Stopped(stop))),
         }
     }
 
@@ -154,9 +154,8 @@ impl Machine {
         let mut history = History::new(heap);
         for _ in 0..count {
             match self.step(code, answers)? {
-                Step::Done { trace, effect } => history.push(trace, effect)?,
-                Step::Stopped(stop) => return Ok(history.ended(End::Stopped(stop))),
-                Step::NoAnswer => return Ok(history.ended(End::NoAnswer)),
+                Ok(done) => history.push(done.trace, done.effect)?,
+                Err(halt) => return Ok(history.ended(halt)),
             }
         }
         Ok(history)

@@ -9,21 +9,19 @@ pub enum Effect {
     Ask { address: u32 },
 }
 
-// A step: an instruction is done, with the trace that the ports show of it, the machine stops, or it waits for an answer that no device has given yet.
+// An instruction that is done: what the ports show of it, and what it does to the outside.
 #[derive(Clone, Copy, PartialEq, Eq)]
-pub enum Step {
-    Done {
-        trace: Retired,
-        effect: Option<Effect>,
-    },
+pub struct Done {
+    pub trace: Retired,
+    pub effect: Option<Effect>,
+}
+
+// Why no more is done: the machine has stopped, or it waits for an answer that no device has given yet.
+#[derive(Clone, Copy, PartialEq, Eq)]
+pub enum Halt {
     Stopped(Stop),
     NoAnswer,
 }
 
-// How a run ended: after as many instructions as it was to do, or before.
-#[derive(Clone, Copy, PartialEq, Eq)]
-pub enum End {
-    Running,
-    Stopped(Stop),
-    NoAnswer,
-}
+// A step: an instruction is done, or the machine halts.
+pub type Step = Result<Done, Halt>;

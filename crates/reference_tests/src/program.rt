@@ -4,7 +4,7 @@ use pins::ports::Retired;
 use reference::history::History;
 use reference::machine::Machine;
 use reference::memory::Memory;
-use reference::trace::{Effect, End};
+use reference::trace::{Effect, Halt};
 use std::alloc::{AllocError, Global};
 
 const WORDS: [u32; 10] = [
@@ -33,11 +33,11 @@ fn show_history(rt: &HostRuntime, history: &History) -> anyhow::Result<()> {
     Ok(())
 }
 
-fn show_end(rt: &HostRuntime, end: End) -> anyhow::Result<()> {
+fn show_end(rt: &HostRuntime, end: Option<Halt>) -> anyhow::Result<()> {
     match end {
-        End::Running => println!(rt; "runs on")?,
-        End::Stopped(stop) => println!(rt; "stops with {}", u32::from(stop))?,
-        End::NoAnswer => println!(rt; "waits for a device")?,
+        None => println!(rt; "runs on")?,
+        Some(Halt::Stopped(stop)) => println!(rt; "stops with {}", u32::from(stop))?,
+        Some(Halt::NoAnswer) => println!(rt; "waits for a device")?,
     }
     Ok(())
 }

@@ -6,7 +6,7 @@ use isa::execute::Stop;
 use pins::ports::{Inputs, Outputs, Retired};
 use reference::machine::Machine;
 use reference::memory::Memory;
-use reference::trace::{Effect, Step};
+use reference::trace::{Done, Effect, Halt};
 use std::alloc::Global;
 use std::collections::VecDeque;
 
@@ -101,7 +101,7 @@ impl Checker {
     // What is done is what the manual does next.
     fn check_retired(&mut self, told: &[u32], core: Retired) -> Result<(), CheckError> {
         match self.machine.step(&self.code, told)? {
-            Step::Done { trace, effect } => {
+            Ok(Done { trace, effect }) => {
                 if core != trace {
                     return Err(Mismatch::Done {
                         core,
@@ -114,8 +114,8 @@ impl Checker {
                 }
                 Ok(())
             }
-            Step::Stopped(_) => Err(Mismatch::DoneAfterStop { core }.into()),
-            Step::NoAnswer => Err(Mismatch::DoneUnanswered { core }.into()),
+            Err(Halt::Stopped(_)) => Err(Mismatch::DoneAfterStop { core }.into()),
+            Err(Halt::NoAnswer) => Err(Mismatch::DoneUnanswered { core }.into()),
         }
     }
 
@@ -160,8 +160,8 @@ impl Checker {
             return Err(Mismatch::StoppedWithout { effect }.into());
         }
         match self.machine.step(&self.code, told)? {
-            Step::Stopped(manual) if core == manual => Ok(()),
-            Step::Stopped(manual) => Err(Mismatch::Stopped { core, manual }.into()),
+            Err(Halt::Stopped(manual)) if core == manual => Ok(()),
+            Err(Halt::Stopped(manual)) => Err(Mismatch::Stopped { core, manual }.into()),
             _ => Err(Mismatch::StoppedEarly { core }.into()),
         }
     }
