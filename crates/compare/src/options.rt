@@ -70,7 +70,7 @@ impl Options {
 }
 
 impl FromWords for Options {
-    fn option(&mut self, name: &str, words: &mut Words) -> Result<(), Failure> {
+    fn option<'a>(&mut self, name: &'a str, words: &mut Words<'a>) -> Result<(), Failure> {
         match name {
             "--hex" => self.format = Some(Format::Hex),
             "--random" => self.random = words.number(name)?,

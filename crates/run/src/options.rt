@@ -3,7 +3,7 @@ use asm::program::Placed;
 use sim::delay::Delay;
 use sim::devices::Rest;
 use std::alloc::Global;
-use testbench::args::{read_numbers, read_placed};
+use testbench::args::Value;
 use testbench::failure::Failure;
 use testbench::files::Format;
 use testbench::options::{FromWords, Words, unknown};
@@ -76,8 +76,7 @@ impl Options {
 }
 
 impl FromWords for Options {
-    fn option(&mut self, name: &str, words: &mut Words) -> Result<(), Failure> {
-        let heap = words.heap;
+    fn option<'a>(&mut self, name: &'a str, words: &mut Words<'a>) -> Result<(), Failure> {
         match name {
             "--hex" => self.format = Some(Format::Hex),
             "--quiet" => self.quiet = true,
@@ -85,13 +84,13 @@ impl FromWords for Options {
             "--random" => self.delay = Delay::UpTo(words.number(name)?),
             "--seed" => self.seed = words.number(name)?,
             "--clocks" => self.clocks = words.number(name)?,
-            "--vcd" => self.vcd = Some(String::from_str(heap, words.value(name)?)?),
-            "--log" => self.log = Some(String::from_str(heap, words.value(name)?)?),
+            "--vcd" => self.vcd = Some(words.value(name)?.string()?),
+            "--log" => self.log = Some(words.value(name)?.string()?),
             "--start" => self.start = Some(words.number(name)?),
-            "--data" => read_placed(heap, name, words.value(name)?, &mut self.data)?,
-            "--answers" => read_numbers(heap, name, words.value(name)?, &mut self.answers)?,
-            "--devices" => self.rest = rest(heap, name, words.value(name)?)?,
-            _ => return Err(unknown(heap, name)?),
+            "--data" => words.value(name)?.placed(&mut self.data)?,
+            "--answers" => words.value(name)?.numbers(&mut self.answers)?,
+            "--devices" => self.rest = rest(words.value(name)?)?,
+            _ => return Err(unknown(words.heap, name)?),
         }
         Ok(())
     }
@@ -105,9 +104,9 @@ impl FromWords for Options {
     }
 }
 
-fn rest(heap: Global, option: &str, text: &str) -> Result<Rest, Failure> {
-    match text {
+fn rest(value: Value) -> Result<Rest, Failure> {
+    match value.text {
         "random" => Ok(Rest::Random),
-        _ => Err(Failure::Input(format!(in heap; "{option}: not 'random' but '{text}'")?)),
+        _ => Err(value.wrong("not 'random' but")?),
     }
 }

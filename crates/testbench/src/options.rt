@@ -1,7 +1,7 @@
 // The options of a program, from the words after its name.
 ghost use Rattle.std.specs.Prelude.{◌≡◌, ◌+◌, ◌≤◌, ◌↔◌, [], ◌∷◌, length, map, string_bytes, Some, Ok, IsNone, IsErr, IfSome, IfOk};
 
-use crate::args::read_number;
+use crate::args::Value;
 use crate::failure::Failure;
 use std::alloc::{AllocError, Global};
 use std::env;
@@ -25,29 +25,32 @@ impl<'a> Words<'a> {
     }
 
     // The value of an option, which stands after it.
-    pub fn value(&mut self, option: &str) -> Result<&'a str, Failure>
+    pub fn value(&mut self, option: &'a str) -> Result<Value<'a>, Failure>
         ensures missing { IsErr result ↔ (self.old.rest.now ≡ []) }
-        ensures first { IfOk result (λ text. map string_bytes self.old.rest.now ≡ text.now ∷ map string_bytes self.new.rest.now) }
+        ensures first { IfOk result (λ v. map string_bytes self.old.rest.now ≡ v.text.now ∷ map string_bytes self.new.rest.now) }
         ensures fewer { length self.new.rest.now ≤ length self.old.rest.now }
     {
         let heap = self.heap;
-        self.next().try_ok_or_else(|| Ok(Failure::Input(format!(in heap; "{option}: no value")?)))
+        match self.next() {
+            Some(text) => Ok(Value { heap, option, text }),
+            None => Err(Failure::Input(format!(in heap; "{option}: no value")?)),
+        }
     }
 
     // A value that is a number.
-    pub fn number(&mut self, option: &str) -> Result<u32, Failure>
+    pub fn number(&mut self, option: &'a str) -> Result<u32, Failure>
         ensures missing { self.old.rest.now ≡ [] → IsErr result }
         ensures taken { IfOk result (λ _. length self.old.rest.now ≡ length self.new.rest.now + 1) }
         ensures fewer { length self.new.rest.now ≤ length self.old.rest.now }
     {
-        read_number(self.heap, option, self.value(option)?)
+        self.value(option)?.number()
     }
 }
 
 // What the words of a command line set.
 pub trait FromWords: Drop {
     // An option. Its value, where it takes one, is the next of the words.
-    fn option(&mut self, name: &str, words: &mut Words) -> Result<(), Failure>
+    fn option<'a>(&mut self, name: &'a str, words: &mut Words<'a>) -> Result<(), Failure>
         ensures { length words.new.rest.now ≤ length words.old.rest.now };
 
     // A word that is no option.

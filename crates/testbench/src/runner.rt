@@ -1,4 +1,6 @@
 // Runs of the core.
+ghost use Rattle.std.specs.Prelude.{◌≡◌, ◌≤◌, IfOk, IsNone};
+
 use crate::failure::Failure;
 use crate::session::{Clock, Session};
 use crate::summary::Summary;
@@ -10,6 +12,8 @@ pub fn run<F: FnMut(&Session, &Clock) -> Result<(), Failure>>(
     mut each: F,
 ) -> Result<Summary, Failure>
     requires { F.IsAlwaysCallable each }
+    ensures most { IfOk result (λ s. s.clocks ≤ limit) }
+    ensures whole { IfOk result (λ s. IsNone s.stopped → s.clocks ≡ limit) }
 {
     let mut summary = Summary::new();
     for _ in 0..limit {

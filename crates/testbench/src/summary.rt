@@ -1,4 +1,7 @@
 // What a run came to.
+ghost use Rattle.std.specs.Prelude.{◌≡◌, ◌+◌, ◌^◌, ◌<◌};
+
+use crate::ratio::Ratio;
 use crate::session::Clock;
 use isa::execute::Stop;
 use pins::ports::Retired;
@@ -14,24 +17,22 @@ pub struct Summary {
 
 impl Summary {
     // Of no clock.
-    pub fn new() -> Summary {
+    pub fn new() -> Summary
+        ensures { result.clocks ≡ 0 }
+    {
         Summary::default()
     }
 
     // One clock more.
-    pub fn add(&mut self, clock: &Clock) {
+    pub fn add(&mut self, clock: &Clock)
+        ensures clocks { self.old.clocks + 1 < 2 ^ 64 → self.new.clocks ≡ self.old.clocks + 1 }
+        ensures stopped { self.new.stopped ≡ clock.now.outputs.stopped }
+    {
         let done = clock.done();
         self.clocks = self.clocks.saturating_add(1);
         self.instructions = self.instructions.saturating_add(done.len() as u64);
         self.stopped = clock.outputs.stopped;
         self.last = done.last().copied().or(self.last);
-    }
-
-    // The clocks of an instruction, in hundredths, rounded.
-    fn hundredths(&self) -> Option<u64> {
-        let half = self.instructions / 2;
-        let hundreds = self.clocks.saturating_mul(100).saturating_add(half);
-        hundreds.checked_div(self.instructions)
     }
 }
 
@@ -41,10 +42,9 @@ impl fmt::Display for Summary {
         let clocks = self.clocks;
         let instructions = self.instructions;
         write!(f, "{clocks} clocks, {instructions} instructions")?;
-        if let Some(n) = self.hundredths() {
-            let whole = n / 100;
-            let part = n % 100;
-            write!(f, ", {whole}.{part:02} clocks per instruction")?;
+        if instructions > 0 {
+            let ratio = Ratio::of(self);
+            write!(f, ", {ratio} clocks per instruction")?;
         }
         Ok(())
     }
