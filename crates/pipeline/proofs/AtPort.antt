@@ -20,7 +20,7 @@ use Rattle.window.proofs.BufferList.{buffer_laws}
 use Rattle.window.proofs.RingList.{ring_laws}
 use Rattle.pipeline.specs.declared.state.Core.{Core as Pipeline}
 use Rattle.pipeline.specs.declared.stages.Ask.{Ask}
-use Rattle.pipeline.specs.declared.stages.Ask.TheVariants.{Nothing, Load, Device}
+use Rattle.pipeline.specs.declared.stages.Ask.TheVariants.{Load, Device}
 use Rattle.pipeline.specs.Step.{store_goes, goes, asked_path, asked_request, ported, port_request, fetch_stage, fetch_want}
 use Rattle.pipeline.specs.Step as step
 use Rattle.pipeline.specs.Schedule.{ask_port}
@@ -31,20 +31,20 @@ pub record Asks (k : Datapath) (q : Option Request) (a : Asked) : Type 0 where
   pub path : Is k a.core
   pub req : request_of q ≡ a.req
 
-module _ (k : Pipeline) (c : Core) (a : Ask) (s : Is k.path c) where
+module _ (k : Pipeline) (c : Core) (a : Option Ask) (s : Is k.path c) where
   drain_asks : k.path.requests.count < 4 → Asks (drained k.path) (drain_request k.path) (rules.drain c)
   drain_asks l = record {
     path = record { sized = retiring_laws.drain_sized k.path s.sized; lists = retiring_laws.drains k.path s.sized l ∙ ap (λ c. (rules.drain c).core) s.lists };
     req = retiring_laws.asks k.path s.sized ∙ ap (λ c. (rules.drain c).req) s.lists;
   }
 
-  ask_asks : k.path.requests.count < 4 → (a : Ask) → Asks (asked_path k.path a) (asked_request k.path a) (request (ask_port a) c)
-  ask_asks l Nothing = record { path = s; req = refl }
-  ask_asks l (Load n) = record {
+  ask_asks : k.path.requests.count < 4 → (a : Option Ask) → Asks (asked_path k.path a) (asked_request k.path a) (request (ask_port a) c)
+  ask_asks l None = record { path = s; req = refl }
+  ask_asks l (Some (Load n)) = record {
     path = record { sized = asking_laws.load_sized k.path n s.sized; lists = asking_laws.load k.path n s.sized l ∙ ap (λ c. (rules.ask_load n c).core) s.lists };
     req = asking_laws.load_asks k.path n s.sized l ∙ ap (λ c. (rules.ask_load n c).req) s.lists;
   }
-  ask_asks l Device = record {
+  ask_asks l (Some Device) = record {
     path = record { sized = asking_laws.reading_sized k.path s.sized; lists = asking_laws.reading k.path s.sized l ∙ ap (λ c. (rules.ask_device c).core) s.lists };
     req = asking_laws.reading_asks k.path s.sized l ∙ ap (λ c. (rules.ask_device c).req) s.lists;
   }

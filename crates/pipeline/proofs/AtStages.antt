@@ -1,5 +1,6 @@
 -- Where the stages stand in the ring is where they stand in its list.
 use Rattle.std.proofs.Common.{◌≡◌, ℕ, zero, suc, ◌+◌, ◌%◌, ◌≤◌, Bool, true, false, ◌&&◌, ◌||◌, ltb, List, [], ◌∷◌, map, length, get_or, take, sym, refl, ap, ◌∙◌, arith}
+use Rattle.std.specs.List.{list_any}
 use Rattle.isa.specs.Words.{pick}
 use Rattle.window.specs.declared.entry.Entry.{Entry}
 use Rattle.window.specs.declared.entry.Tag.{Tag}
@@ -29,32 +30,17 @@ first_items p w =
     first_around p w 0 w.count ∙ ap (λ i. first_in p 0 (around size no_entry w.at i w.count)) s
 
 -- what is asked for is open
-asked_tags : (q : Requests) (n : ℕ) → SizedQueue q → asked q n ≡ any (map (is_load n) (tags q))
-unfolding queued
-asked_tags q n s = by q.at q.count s.slots s.count
-  where
-    both : (b : Bool) → b || false ≡ b
-    both true = refl
-    both false = refl
+any_mapped : (p : Tag → Bool) (ts : List Tag) → list_any p ts ≡ any (map p ts)
+any_mapped p [] = refl
+any_mapped p (t ∷ ts) = ap (λ b. p t || b) (any_mapped p ts)
 
-    by : (ts : List Tag) (c : ℕ) → length ts ≡ 4 → c ≤ 4
-        → (ltb 0 c && is_load n (get_or ts 0 Acknowledgment)) || ((ltb 1 c && is_load n (get_or ts 1 Acknowledgment)) || ((ltb 2 c && is_load n (get_or ts 2 Acknowledgment)) || (ltb 3 c && is_load n (get_or ts 3 Acknowledgment))))
-        ≡ any (map (is_load n) (take c ts))
-    by (a ∷ b ∷ c ∷ d ∷ []) zero l m = refl
-    by (a ∷ b ∷ c ∷ d ∷ []) (suc zero) l m = refl
-    by (a ∷ b ∷ c ∷ d ∷ []) (suc (suc zero)) l m = refl
-    by (a ∷ b ∷ c ∷ d ∷ []) (suc (suc (suc zero))) l m = refl
-    by (a ∷ b ∷ c ∷ d ∷ []) (suc (suc (suc (suc zero)))) l m = ap (λ z. is_load n a || (is_load n b || (is_load n c || z))) (sym (both (is_load n d)))
-    by (a ∷ b ∷ c ∷ d ∷ []) (suc (suc (suc (suc (suc k))))) l m = absurd (omega arith)
-    by [] c l m = absurd (omega arith)
-    by (a ∷ []) c l m = absurd (omega arith)
-    by (a ∷ b ∷ []) c l m = absurd (omega arith)
-    by (a ∷ b ∷ d ∷ []) c l m = absurd (omega arith)
-    by (a ∷ b ∷ d ∷ e ∷ f ∷ ts) c l m = absurd (omega arith)
+asked_tags : (q : Requests) (n : ℕ) → asked q n ≡ any (map (is_load n) (tags q))
+unfolding queued
+asked_tags q n = any_mapped (is_load n) (take q.count q.at)
 
 pub memory_at : (k : Datapath) → SizedDatapath k → at_stage Memory k ≡ at_memory (lists k)
 memory_at k s =
-    (λ j. first_from (λ n. waits (asked_tags k.requests n s.requests j) (entry k.window n)) 0 k.window.count)
+    (λ j. first_from (λ n. waits (asked_tags k.requests n j) (entry k.window n)) 0 k.window.count)
     ∙ first_items (λ n e. waits (load_open n (lists k)) e) k.window
 
 pub execute_at : (k : Datapath) → at_stage Execute k ≡ at_execute (lists k)

@@ -1,5 +1,5 @@
 -- The pipeline's schedule is fair.
-use Rattle.std.proofs.Common.{◌≡◌, ℕ, ◌/◌, ◌<◌, ◌≤◌, Bool, true, false, not, ◌&&◌, ltb, ◌⊎◌, List, [], ◌∷◌, length, Some, None, sym, refl, ap, ◌∙◌, subst, inl, inr, arith}
+use Rattle.std.proofs.Common.{◌≡◌, ℕ, ◌/◌, ◌<◌, ◌≤◌, Bool, true, false, not, ◌&&◌, ltb, ◌⊎◌, List, [], ◌∷◌, length, Some, None, sym, refl, ap, ◌∙◌, subst, inl, inr, arith, Option}
 use mathlib.Core.Option.{some, none}
 use Rattle.std.proofs.lemmas.Bool.{ltb-false, lt-ltb}
 use Rattle.isa.specs.Words.{pick, add}
@@ -106,10 +106,10 @@ module _ (z : State Tables) (i : In) where
             let a = asks_load kw hw.head hm.head hw.tail hm.tail hw.is hm.is r b ol dv nl ml in
             let s = not_in_stores kw hw.head hm.head hw.tail hm.tail hw.is hm.is r b ol dv nl ml in (
               ap (row_source (b / 4) Memory) on.stores ∙ s,
-              subst (λ (x : Ask). (port_for turn waiting x ≡ loads 0) ⊎ ((port_for turn waiting x ≡ drains) × (0 < waiting))) (sym a) (load_port turn waiting),
+              subst (λ (x : Option Ask). (port_for turn waiting x ≡ loads 0) ⊎ ((port_for turn waiting x ≡ drains) × (0 < waiting))) (sym a) (load_port turn waiting),
             )
 
-        reads_device : (r : Reg) (b : ℕ) → o ≡ Loads r b → device b ≡ true → memory_ask kw ≡ Device
+        reads_device : (r : Reg) (b : ℕ) → o ≡ Loads r b → device b ≡ true → memory_ask kw ≡ Some Device
         reads_device r b q dv = asks_device_read kw hw.head hm.head hw.tail hm.tail hw.is hm.is r b (ow ∙ ap Some q) dv
 
       -- where it waits for stores, one goes

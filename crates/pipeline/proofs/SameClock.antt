@@ -46,7 +46,7 @@ module _ (k : Pipeline) (j : In) (sized : SizedDatapath k.path) where
   abbrev c6 : Core
   c6 = learn read_right (at_read c5) (learn read_left (at_read c5) c5)
 
-  abbrev asks : Ask
+  abbrev asks : Option Ask
   asks = ask_of (at_memory c2) (the_entry c3 (at_memory c2))
 
   heard_is : Is (heard k i) c1

@@ -21,7 +21,7 @@ pub record Ran (k : Core) (i : Inputs) : Type 0 where
   pub p4 : Datapath
   pub p5 : Datapath
   pub p6 : Datapath
-  pub asks : Ask
+  pub asks : Option Ask
   pub q : Core
   pub p7 : Datapath
   pub code : p1 ≡ code_in k.path i.code

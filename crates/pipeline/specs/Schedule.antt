@@ -1,6 +1,6 @@
 -- The pipeline as a schedule of the general machine: the stages from the last to the first, so that in a clock an instruction passes at
 -- most one of them. Writing; memory; executing, where a wrong prediction is put right; reading registers.
-use Rattle.std.specs.Prelude.{ℕ, ◌+◌, Bool, false, not, List, [], ◌∷◌, length, Option, nat_lt}
+use Rattle.std.specs.Prelude.{ℕ, ◌+◌, Bool, false, not, List, [], ◌∷◌, length, Option, nat_lt, Some, None}
 use Rattle.std.proofs.Math.Option.{some, none}
 use Rattle.isa.specs.Words.{pick, nth, add}
 use Rattle.pins.specs.PortWords.{optional}
@@ -11,7 +11,7 @@ use Rattle.window.specs.Fairness.{load_open}
 use Rattle.window.specs.Rings.{size}
 use Rattle.window.specs.Clocks.{Move, rest, reads_left, reads_right, executes, forwards, redirects, retires, Port, leaves, loads, drains, asks_device, room, Schedule}
 use Rattle.pipeline.specs.declared.stages.Ask.{Ask}
-use Rattle.pipeline.specs.declared.stages.Ask.TheVariants.{Nothing, Load, Device}
+use Rattle.pipeline.specs.declared.stages.Ask.TheVariants.{Load, Device}
 use Rattle.pipeline.specs.Stages.{waits, lacks_operand, lacks_outcome, ask_of}
 use Rattle.pipeline.specs.Step.{mispredicted, store_goes}
 
@@ -19,12 +19,12 @@ use Rattle.pipeline.specs.Step.{mispredicted, store_goes}
 pub record Tables : Type 0 where
   pub turn : Bool
   pub at : ℕ
-  pub ask : Ask
+  pub ask : Option Ask
 
 abbrev pub with_at : Tables → ℕ → Tables
 with_at t n = record { turn = t.turn; at = n; ask = t.ask }
 
-abbrev pub with_ask : Tables → Ask → Tables
+abbrev pub with_ask : Tables → Option Ask → Tables
 with_ask t a = record { turn = t.turn; at = t.at; ask = a }
 
 abbrev pub with_turn : Tables → Bool → Tables
@@ -32,7 +32,7 @@ with_turn t b = record { turn = b; at = t.at; ask = t.ask }
 
 -- between clocks
 abbrev pub tables : Bool → Tables
-tables b = record { turn = b; at = 0; ask = Nothing }
+tables b = record { turn = b; at = 0; ask = None }
 
 -- the first instruction for which p holds, from number n on
 abbrev pub first_in : (ℕ → Entry → Bool) → ℕ → List Entry → ℕ
@@ -77,10 +77,10 @@ abbrev pub reading_right : Tables → Core → Move × Tables
 reading_right t k = (reads_right t.at, t)
 
 -- the request port
-abbrev pub ask_port : Ask → Port
-ask_port Nothing = leaves
-ask_port (Load n) = loads n
-ask_port Device = asks_device
+abbrev pub ask_port : Option Ask → Port
+ask_port None = leaves
+ask_port (Some (Load n)) = loads n
+ask_port (Some Device) = asks_device
 
 abbrev pub store_turn : Tables → Core → Bool
 store_turn t k = store_goes t.turn (length k.stores) t.ask

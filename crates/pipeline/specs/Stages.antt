@@ -1,12 +1,12 @@
 -- Where the stages' instructions stand in the window, and what the memory stage wants of the request port.
-use Rattle.std.specs.Prelude.{ℕ, zero, suc, ◌+◌, Bool, true, false, not, ◌&&◌, ◌||◌, Option, ◌==◌, nat_lt, slice_index_or}
+use Rattle.std.specs.Prelude.{ℕ, zero, suc, ◌+◌, Bool, true, false, not, ◌||◌, take, Option, ◌==◌, Some, None}
+use Rattle.std.specs.List.{list_any}
 use Rattle.isa.specs.Words.{pick}
 use Rattle.isa.specs.Manual.{device}
 use Rattle.isa.specs.declared.execute.Outcome.{Outcome}
 use Rattle.isa.specs.declared.execute.Outcome.TheVariants.{Write as Writes, Jump as Jumps, Load as Loads, Store as Stores, Halt as Halts}
 use Rattle.window.specs.declared.entry.Entry.{Entry}
 use Rattle.window.specs.declared.entry.Tag.{Tag}
-use Rattle.window.specs.declared.entry.Tag.TheVariants.{Acknowledgment}
 use Rattle.window.specs.declared.datapath.Datapath.{Datapath}
 use Rattle.window.specs.Entries.{given}
 use Rattle.window.specs.Fairness as fairness
@@ -15,17 +15,14 @@ use Rattle.window.specs.Queues.{Requests}
 use Rattle.pipeline.specs.declared.stages.Stage.{Stage}
 use Rattle.pipeline.specs.declared.stages.Stage.TheVariants.{Read, Execute, Memory}
 use Rattle.pipeline.specs.declared.stages.Ask.{Ask}
-use Rattle.pipeline.specs.declared.stages.Ask.TheVariants.{Nothing, Load, Device}
+use Rattle.pipeline.specs.declared.stages.Ask.TheVariants.{Load, Device}
 
 abbrev pub is_load : ℕ → Tag → Bool
 is_load n t = fairness.is_load n t
 
 -- the load of the n-th instruction is asked for
 abbrev pub asked : Requests → ℕ → Bool
-asked q n = (nat_lt 0 q.count && is_load n (slice_index_or q.at 0 Acknowledgment))
-    || ((nat_lt 1 q.count && is_load n (slice_index_or q.at 1 Acknowledgment))
-    || ((nat_lt 2 q.count && is_load n (slice_index_or q.at 2 Acknowledgment))
-    || (nat_lt 3 q.count && is_load n (slice_index_or q.at 3 Acknowledgment))))
+asked q n = list_any (is_load n) (take q.count q.at)
 
 abbrev pub none : {A : Type 0} → Option A → Bool
 none o = given o true (λ _. false)
@@ -61,15 +58,15 @@ abbrev pub at_stage : Stage → Datapath → ℕ
 at_stage s k = first_from (λ n. stands s k.requests n (entry k.window n)) 0 k.window.count
 
 -- what the n-th instruction wants of the request port
-abbrev pub ask_outcome : ℕ → Entry → Outcome → Ask
-ask_outcome n e (Writes r x b) = Nothing
-ask_outcome n e (Jumps b) = Nothing
-ask_outcome n e (Loads r b) = pick (device b) (pick (n == 0) Device Nothing) (given e.loaded (Load n) (λ _. Nothing))
-ask_outcome n e (Stores b x) = Nothing
-ask_outcome n e (Halts h) = Nothing
+abbrev pub ask_outcome : ℕ → Entry → Outcome → Option Ask
+ask_outcome n e (Writes r x b) = None
+ask_outcome n e (Jumps b) = None
+ask_outcome n e (Loads r b) = pick (device b) (pick (n == 0) (Some Device) None) (given e.loaded (Some (Load n)) (λ _. None))
+ask_outcome n e (Stores b x) = None
+ask_outcome n e (Halts h) = None
 
-abbrev pub ask_of : ℕ → Option Entry → Ask
-ask_of n o = given o Nothing (λ e. given e.outcome Nothing (ask_outcome n e))
+abbrev pub ask_of : ℕ → Option Entry → Option Ask
+ask_of n o = given o None (λ e. given e.outcome None (ask_outcome n e))
 
-abbrev pub ask_at : Datapath → ℕ → Ask
+abbrev pub ask_at : Datapath → ℕ → Option Ask
 ask_at k n = ask_of n (entry_at k.window n)

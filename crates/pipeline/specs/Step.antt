@@ -19,7 +19,7 @@ use Rattle.window.specs.Asking.{read_of, load_address, load_asked, device_addres
 use Rattle.pipeline.specs.declared.state.Core.{Core}
 use Rattle.pipeline.specs.declared.stages.Stage.TheVariants.{Read, Execute, Memory}
 use Rattle.pipeline.specs.declared.stages.Ask.{Ask}
-use Rattle.pipeline.specs.declared.stages.Ask.TheVariants.{Nothing, Load, Device}
+use Rattle.pipeline.specs.declared.stages.Ask.TheVariants.{Load, Device}
 use Rattle.pipeline.specs.Stages.{at_stage, ask_at}
 
 abbrev pub core_start : ℕ → Core
@@ -36,7 +36,7 @@ data_in k i = given i k (data_taken k)
 abbrev pub memory_stage : Datapath → Datapath
 memory_stage k = ruled forward_for k (at_stage Memory k)
 
-abbrev pub memory_ask : Datapath → Ask
+abbrev pub memory_ask : Datapath → Option Ask
 memory_ask k = ask_at (memory_stage k) (at_stage Memory k)
 
 -- executing
@@ -67,31 +67,31 @@ abbrev pub read_stage : Datapath → Datapath
 read_stage k = read_at k (at_stage Read k)
 
 -- the request port: does a waiting store take it?
-abbrev pub store_goes : Bool → ℕ → Ask → Bool
-store_goes t c Nothing = nat_lt 0 c
-store_goes t c (Load n) = nat_lt 0 c && (t || nat_le 8 c)
-store_goes t c Device = nat_lt 0 c
+abbrev pub store_goes : Bool → ℕ → Option Ask → Bool
+store_goes t c None = nat_lt 0 c
+store_goes t c (Some (Load n)) = nat_lt 0 c && (t || nat_le 8 c)
+store_goes t c (Some Device) = nat_lt 0 c
 
-abbrev pub goes : Core → Ask → Bool
+abbrev pub goes : Core → Option Ask → Bool
 goes k a = store_goes k.turn k.path.stores.count a
 
-abbrev pub asked_path : Datapath → Ask → Datapath
-asked_path k Nothing = k
-asked_path k (Load n) = load_asked k n
-asked_path k Device = device_asked k
+abbrev pub asked_path : Datapath → Option Ask → Datapath
+asked_path k None = k
+asked_path k (Some (Load n)) = load_asked k n
+asked_path k (Some Device) = device_asked k
 
-abbrev pub asked_request : Datapath → Ask → Option Request
-asked_request k Nothing = None
-asked_request k (Load n) = read_of (load_address k n)
-asked_request k Device = read_of (device_address k)
+abbrev pub asked_request : Datapath → Option Ask → Option Request
+asked_request k None = None
+asked_request k (Some (Load n)) = read_of (load_address k n)
+asked_request k (Some Device) = read_of (device_address k)
 
 abbrev pub room : Core → Bool
 room k = nat_lt k.path.requests.count 4
 
-abbrev pub ported : Core → Ask → Core
+abbrev pub ported : Core → Option Ask → Core
 ported k a = cond (room k) (cond (goes k a) (record { path = drained k.path; turn = false }) (record { path = asked_path k.path a; turn = true })) k
 
-abbrev pub port_request : Core → Ask → Option Request
+abbrev pub port_request : Core → Option Ask → Option Request
 port_request k a = cond (room k) (cond (goes k a) (drain_request k.path) (asked_request k.path a)) None
 
 -- fetching
@@ -114,7 +114,7 @@ heard k i = data_in (code_in k.path i.code) i.answer
 abbrev pub wrote : Core → Inputs → Datapath
 wrote k i = retired (heard k i)
 
-abbrev pub ask : Core → Inputs → Ask
+abbrev pub ask : Core → Inputs → Option Ask
 ask k i = memory_ask (wrote k i)
 
 abbrev pub staged : Core → Inputs → Core

@@ -27,7 +27,7 @@ fn take_data(path: &mut Datapath, answer: Option<u32>)
 }
 
 // Memory: the oldest load that has not got its word gets it from an older store, or is to be asked for.
-fn memory(path: &mut Datapath) -> Ask
+fn memory(path: &mut Datapath) -> Option<Ask>
     ensures path { path.new ≡ memory_stage path.old }
     ensures asks { result ≡ memory_ask path.old }
 {
@@ -51,23 +51,17 @@ fn next_after(e: Entry, outcome: Outcome) -> Option<u32>
 fn mispredicted(e: Entry) -> Option<u32>
     ensures { result ≡ mispredicted e }
 {
-    let outcome = e.outcome?;
-    let next = next_after(e, outcome)?;
-    if next == e.predicted {
-        None
-    } else {
-        Some(next)
-    }
+    next_after(e, e.outcome?).filter(|next| *next != e.predicted)
 }
 
 // After a wrong prediction what is younger than the n-th is flushed.
 fn redirect(path: &mut Datapath, n: u32)
     ensures { path.new ≡ redirect_by path.old n }
 {
-    if let Some(e) = path.window.get(n) {
-        if let Some(next) = mispredicted(e) {
-            path.redirect(n, next);
-        }
+    if let Some(e) = path.window.get(n)
+        && let Some(next) = mispredicted(e)
+    {
+        path.redirect(n, next);
     }
 }
 
@@ -90,18 +84,18 @@ fn read(path: &mut Datapath)
 }
 
 // Does a waiting store take the request port? It and loads take turns; a full buffer goes first.
-fn store_goes(turn: bool, count: u32, ask: Ask) -> bool
+fn store_goes(turn: bool, count: u32, ask: Option<Ask>) -> bool
     ensures { result ≡ store_goes turn count ask }
 {
     match ask {
-        Ask::Nothing | Ask::Device => count > 0,
-        Ask::Load(_) => count > 0 && (turn || count >= 8),
+        Some(Ask::Load(_)) => count > 0 && (turn || count >= 8),
+        _ => count > 0,
     }
 }
 
 impl Core {
     // The request port, if fewer than four requests are open.
-    fn port(&mut self, ask: Ask) -> Option<Request>
+    fn port(&mut self, ask: Option<Ask>) -> Option<Request>
         ensures core { self.new ≡ ported self.old ask }
         ensures asks { result ≡ port_request self.old ask }
     {
@@ -113,8 +107,7 @@ impl Core {
             return self.path.drain();
         }
         self.turn = true;
-        match ask {
-            Ask::Nothing => None,
+        match ask? {
             Ask::Load(n) => self.path.ask_load(n),
             Ask::Device => self.path.ask_device(),
         }
@@ -143,10 +136,7 @@ fn fetch(path: &mut Datapath) -> Option<u32>
 fn done(retired: Option<Retired>) -> Done
     ensures { result ≡ done_of retired }
 {
-    match retired {
-        None => Done::none(),
-        Some(one) => Done::one(one),
-    }
+    retired.map_or(Done::none(), Done::one)
 }
 
 impl Core {

@@ -5,7 +5,7 @@ ghost use Rattle.pipeline.specs.Stages.{is_load, asked, waits_outcome, waits, st
 use isa::devices::DEVICES;
 use isa::execute::Outcome;
 use window::datapath::Datapath;
-use window::entry::{Entry, Tag};
+use window::entry::{Entry, Number, Tag};
 use window::queues::Requests;
 
 // Reading registers, executing, memory.
@@ -19,7 +19,6 @@ pub enum Stage {
 // What the memory stage wants of the request port.
 #[derive(Clone, Copy)]
 pub enum Ask {
-    Nothing,
     Load(u32),
     Device,
 }
@@ -27,22 +26,18 @@ pub enum Ask {
 fn is_load(tag: Tag, n: u32) -> bool
     ensures { result ≡ is_load n tag }
 {
-    match tag {
-        Tag::Load(number) => number.0 == n,
-        _ => false,
-    }
+    tag == Tag::Load(Number(n))
 }
 
 // Is the load of the n-th instruction asked for?
 fn asked(requests: &Requests, n: u32) -> bool
     ensures { result ≡ asked requests.now n }
 {
-    let [a, b, c, d] = requests.at;
-    let count = requests.count;
-    (count > 0 && is_load(a, n))
-        || (count > 1 && is_load(b, n))
-        || (count > 2 && is_load(c, n))
-        || (count > 3 && is_load(d, n))
+    requests
+        .at
+        .iter()
+        .take(requests.count as usize)
+        .any(|tag| is_load(*tag, n))
 }
 
 // Does the memory stage stop at an instruction with this outcome: at a load that is to be asked for, at a device, where it halts?
@@ -50,15 +45,7 @@ fn waits_outcome(asked: bool, e: Entry, outcome: Outcome) -> bool
     ensures { result ≡ waits_outcome asked e outcome }
 {
     match outcome {
-        Outcome::Load { address, .. } => {
-            if address >= DEVICES {
-                return true;
-            }
-            match e.loaded {
-                None => !asked,
-                Some(_) => false,
-            }
-        }
+        Outcome::Load { address, .. } => address >= DEVICES || (e.loaded.is_none() && !asked),
         Outcome::Halt(_) => true,
         _ => false,
     }
@@ -67,10 +54,8 @@ fn waits_outcome(asked: bool, e: Entry, outcome: Outcome) -> bool
 fn waits(asked: bool, e: Entry) -> bool
     ensures { result ≡ waits asked e }
 {
-    match e.outcome {
-        None => true,
-        Some(outcome) => waits_outcome(asked, e, outcome),
-    }
+    e.outcome
+        .is_none_or(|outcome| waits_outcome(asked, e, outcome))
 }
 
 impl Stage {
@@ -102,33 +87,21 @@ impl Stage {
 }
 
 // What the n-th instruction, which is e, wants of the request port.
-fn ask_outcome(n: u32, e: Entry, outcome: Outcome) -> Ask
+fn ask_outcome(n: u32, e: Entry, outcome: Outcome) -> Option<Ask>
     ensures { result ≡ ask_outcome n e outcome }
 {
     match outcome {
-        Outcome::Load { address, .. } => {
-            if address >= DEVICES {
-                return if n == 0 { Ask::Device } else { Ask::Nothing };
-            }
-            match e.loaded {
-                None => Ask::Load(n),
-                Some(_) => Ask::Nothing,
-            }
-        }
-        _ => Ask::Nothing,
+        Outcome::Load { address, .. } if address >= DEVICES => (n == 0).then_some(Ask::Device),
+        Outcome::Load { .. } if e.loaded.is_none() => Some(Ask::Load(n)),
+        _ => None,
     }
 }
 
 impl Ask {
-    pub fn at(path: &Datapath, n: u32) -> Ask
+    pub fn at(path: &Datapath, n: u32) -> Option<Ask>
         ensures { result ≡ ask_at path.now n }
     {
-        let Some(e) = path.window.get(n) else {
-            return Ask::Nothing;
-        };
-        match e.outcome {
-            None => Ask::Nothing,
-            Some(outcome) => ask_outcome(n, e, outcome),
-        }
+        let e = path.window.get(n)?;
+        ask_outcome(n, e, e.outcome?)
     }
 }
