@@ -9,11 +9,11 @@ use Rattle.isa.specs.declared.reg.Reg.{Reg}
 use Rattle.isa.specs.declared.execute.Outcome.{Outcome}
 use Rattle.isa.specs.declared.execute.Outcome.TheVariants.{Write as Writes, Jump as Jumps, Load as Loads, Store as Stores, Halt as Halts}
 use Rattle.pins.specs.PortWords.{request_of, done_list}
-use Rattle.first.specs.declared.state.Store.{Store}
+use Rattle.pins.specs.declared.held.Store.{Store}
 use Rattle.first.specs.declared.state.Open.{Open}
 use Rattle.first.specs.declared.state.Open.TheVariants.{Load as ForLoad}
-use Rattle.first.specs.declared.state.Load.{Load}
-use Rattle.first.specs.declared.state.Load.TheVariants.{Idle, Waiting, Answered}
+use Rattle.pins.specs.declared.held.Reading.{Reading}
+use Rattle.pins.specs.declared.held.Reading.TheVariants.{Idle, Waiting, Answered}
 use Rattle.first.specs.declared.state.Core.{Core}
 use Rattle.first.specs.declared.state.Action.{Action}
 use Rattle.first.specs.declared.state.Action.TheVariants.{Wait, Halt, Write, Jump, Push, Ask}
@@ -41,7 +41,7 @@ module _ (k : Core) where
   ask_fits : (a : ℕ) (t : Bool) → (lsu_room k.lsu && t) ≡ true → Fits k (Ask a)
   ask_fits a t e = ltb-true k.lsu.requests.count 4 (and_parts (lsu_room k.lsu) t e).0
 
-  load_fits : (r : Reg) (a : ℕ) (l : Load) → Fits k (load_action k r a l)
+  load_fits : (r : Reg) (a : ℕ) (l : Reading) → Fits k (load_action k r a l)
   load_fits r a (Waiting b) = tt
   load_fits r a (Answered b x) = tt
   load_fits r a Idle = cond_both (device a) _ _ (Fits k) (λ _. cond_both (lsu_room k.lsu && no_stores k) _ _ (Fits k) (ask_fits a (no_stores k)) (λ _. tt)) (λ _. forwards (forwarded k.lsu.stores a))
@@ -74,7 +74,7 @@ pub record ActIs (k : Core) (x : Action) : Type 0 where
   pub req : request_of (effect k x).request ≡ (apply (model_of k) x).req
   pub sized : Sized (act k x)
 
-same_model : {gs : List ℕ} {a : ℕ} {f g : Fetching} {r s : List Store} {o p : List Open} {l : Load} {h : Opt ℕ} → f ≡ g → r ≡ s → o ≡ p
+same_model : {gs : List ℕ} {a : ℕ} {f g : Fetching} {r s : List Store} {o p : List Open} {l : Reading} {h : Opt ℕ} → f ≡ g → r ≡ s → o ≡ p
     → ◌≡◌ {A = Model} (record { regs = gs; pc = a; fetch = f; lsu = record { row = r; opens = o; load = l }; stop = h }) (record { regs = gs; pc = a; fetch = g; lsu = record { row = s; opens = p; load = l }; stop = h })
 same_model {gs} {a} {l = l} {h = h} e q t = λ i. record { regs = gs; pc = a; fetch = e i; lsu = record { row = q i; opens = t i; load = l }; stop = h }
 

@@ -12,11 +12,11 @@ use Rattle.pins.specs.View.{View, pop, DataAllowed}
 use Rattle.pins.specs.View as view
 use Rattle.pins.specs.Settled.{Due, any_word, from_device, that_word, due, dues, Meets, tells}
 use Rattle.pins.proofs.Settling.{settled_laws}
-use Rattle.first.specs.declared.state.Store.{Store}
+use Rattle.pins.specs.declared.held.Store.{Store}
 use Rattle.first.specs.declared.state.Open.{Open}
 use Rattle.first.specs.declared.state.Open.TheVariants.{Acknowledgment, Load as ForLoad}
-use Rattle.first.specs.declared.state.Load.{Load}
-use Rattle.first.specs.declared.state.Load.TheVariants.{Idle, Waiting, Answered}
+use Rattle.pins.specs.declared.held.Reading.{Reading}
+use Rattle.pins.specs.declared.held.Reading.TheVariants.{Idle, Waiting, Answered}
 use Rattle.first.specs.Model.{Fetching, Storing, Model, answer, take_data}
 use Rattle.first.proofs.Buffered.{row_evs, final}
 use Rattle.first.proofs.Requested.{Tags}
@@ -55,11 +55,11 @@ told_due f b x e ds q = ap (λ d. tells (some x) (d ∷ ds)) q ∙ by (device b)
     by false = refl
 
 module _ (c : Code) (m : Mem) (a : ℕ) (gs : List ℕ) (p : ℕ) (f : Fetching) (row : List Store) (st : Option ℕ) where
-  abbrev K : List Open → Load → Model
+  abbrev K : List Open → Reading → Model
   K ks l = record { regs = gs; pc = p; fetch = f; lsu = record { row = row; opens = ks; load = l }; stop = st }
 
   -- only a store's acknowledgment: nothing but the queue changes
-  runs_acked : (ks ks' : List Open) (l : Load) (g : Mem) (told : List ℕ) (rets : List Ret) (evs : List Ev) → Runs c m a (K ks l) g told rets evs → Runs c m a (K ks' l) g (told ++ []) rets evs
+  runs_acked : (ks ks' : List Open) (l : Reading) (g : Mem) (told : List ℕ) (rets : List Ret) (evs : List Ev) → Runs c m a (K ks l) g told rets evs → Runs c m a (K ks' l) g (told ++ []) rets evs
   runs_acked ks ks' l g told rets evs h =
       let r : Runs c m a (K ks' l) g told rets evs = record { at = h.at; done = h.done; did = h.did; works = h.works; halts = h.halts } in
       subst (λ (ts : List ℕ). Runs c m a (K ks' l) g ts rets evs) (sym (append-nil told)) r
@@ -81,15 +81,15 @@ module _ (c : Code) (m : Mem) (a : ℕ) (gs : List ℕ) (p : ℕ) (f : Fetching)
       }
 
   -- what an answer does, by the oldest open request
-  abbrev after : ℕ → List Open → Load → Storing
+  abbrev after : ℕ → List Open → Reading → Storing
   after x ks l = answer x (record { row = row; opens = ks; load = l }) ks
 
-  pub record Taken (g : Mem) (x : ℕ) (ks : List Open) (l : Load) (ds : List Due) (told : List ℕ) (rets : List Ret) (evs : List Ev) : Type 0 where
+  pub record Taken (g : Mem) (x : ℕ) (ks : List Open) (l : Reading) (ds : List Due) (told : List ℕ) (rets : List Ret) (evs : List Ev) : Type 0 where
     pub row_is : (after x ks l).row ≡ row
     pub tags : Tags (after x ks l).load g (after x ks l).opens (pop (some x) ds)
     pub runs : Runs c m a (with_storing (K ks l) (after x ks l)) g (told ++ tells (some x) ds) rets evs
 
-  pub taken : (g : Mem) (x : ℕ) (ks : List Open) (l : Load) (ds : List Due) (told : List ℕ) (rets : List Ret) (evs : List Ev)
+  pub taken : (g : Mem) (x : ℕ) (ks : List Open) (l : Reading) (ds : List Due) (told : List ℕ) (rets : List Ret) (evs : List Ev)
       → Meets (some x) ds → Tags l g ks ds → Runs c m a (K ks l) g told rets evs → Taken g x ks l ds told rets evs
   taken g x ks l [] told rets evs n t h = absurd n
   taken g x [] Idle (d ∷ ds) told rets evs n t h = absurd t

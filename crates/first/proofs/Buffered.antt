@@ -10,7 +10,7 @@ use Rattle.pins.specs.Ports.{reads, writes1}
 use Rattle.pins.specs.View.{View, ask_data}
 use Rattle.pins.specs.Settled.{flushed}
 use Rattle.pins.proofs.Settling.{settled_laws}
-use Rattle.first.specs.declared.state.Store.{Store}
+use Rattle.pins.specs.declared.held.Store.{Store}
 use Rattle.first.specs.Model.{lookup}
 
 -- the writes of a row of stores

@@ -8,10 +8,10 @@ use Rattle.pins.specs.View.{View, take_in, add_out, ask_data, want_code, show_st
 use Rattle.pins.specs.View as view
 use Rattle.pins.specs.Settled.{dues}
 use Rattle.pins.proofs.Settling.{settled_laws}
-use Rattle.first.specs.declared.state.Store.{Store}
+use Rattle.pins.specs.declared.held.Store.{Store}
 use Rattle.first.specs.declared.state.Open.{Open}
 use Rattle.first.specs.declared.state.Open.TheVariants.{Acknowledgment}
-use Rattle.first.specs.declared.state.Load.{Load}
+use Rattle.pins.specs.declared.held.Reading.{Reading}
 use Rattle.first.specs.Model.{Fetching, Model, decide, apply, take_code, latched, taken, drain, drain_one, drain_if, want, ending, model_next}
 use Rattle.first.proofs.Fetched.{code_kept, want_kept}
 use Rattle.first.proofs.Buffered.{write_ev, row_evs, final, final_drain}
@@ -55,7 +55,7 @@ module _ (c : Code) (m : Mem) (a : ℕ) where
       }
 
   -- a store goes out
-  module _ (gs : List ℕ) (p : ℕ) (f : Fetching) (ks : List Open) (l : Load) (st : Option ℕ) (v : View) where
+  module _ (gs : List ℕ) (p : ℕ) (f : Fetching) (ks : List Open) (l : Reading) (st : Option ℕ) (v : View) where
     abbrev K : List Store → Model
     K row = record { regs = gs; pc = p; fetch = f; lsu = record { row = row; opens = ks; load = l }; stop = st }
 

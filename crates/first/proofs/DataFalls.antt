@@ -12,18 +12,18 @@ use Rattle.isa.specs.declared.execute.Outcome.TheVariants.{Write as Writes, Jump
 use Rattle.pins.specs.Ports.{Req}
 use Rattle.pins.specs.View.{pop, push}
 use Rattle.pins.specs.Waits.{age0}
-use Rattle.first.specs.declared.state.Store.{Store}
+use Rattle.pins.specs.declared.held.Store.{Store}
 use Rattle.first.specs.declared.state.Open.{Open}
 use Rattle.first.specs.declared.state.Open.TheVariants.{Acknowledgment, Load as ForLoad}
-use Rattle.first.specs.declared.state.Load.{Load}
-use Rattle.first.specs.declared.state.Load.TheVariants.{Idle, Waiting, Answered}
+use Rattle.pins.specs.declared.held.Reading.{Reading}
+use Rattle.pins.specs.declared.held.Reading.TheVariants.{Idle, Waiting, Answered}
 use Rattle.first.specs.declared.state.Action.{Action}
 use Rattle.first.specs.declared.state.Action.TheVariants.{Wait, Halt, Write, Push, Ask}
 use Rattle.first.specs.Model.{Fetching, Storing, Model, Did, answer, answer_load, take_data, lookup, if_drained, loading, act, work_on, decide, apply, drain, drain_one, drain_if}
 use Rattle.first.proofs.Left.{AskedFor, Young, older, left, left_most}
 
 -- what is open, what waits, and the load that is not requested yet
-abbrev pub to_ask : Load → ℕ
+abbrev pub to_ask : Reading → ℕ
 to_ask Idle = 1
 to_ask (Waiting a) = 0
 to_ask (Answered a x) = 0
@@ -34,13 +34,13 @@ amount d = length d.opens + length d.row + to_ask d.load
 abbrev pub data_rank : ℕ → Storing → List ℕ → ℕ
 data_rank l d q = amount d * (l + 2) + left l 0 q
 
-pub to_ask_most : (p : Load) → to_ask p ≤ 1
+pub to_ask_most : (p : Reading) → to_ask p ≤ 1
 to_ask_most Idle = omega arith
 to_ask_most (Waiting a) = omega arith
 to_ask_most (Answered a x) = omega arith
 
 -- an answer is one less
-to_ask_same : (x : ℕ) (p : Load) → to_ask (answer_load x p) ≡ to_ask p
+to_ask_same : (x : ℕ) (p : Reading) → to_ask (answer_load x p) ≡ to_ask p
 to_ask_same x Idle = refl
 to_ask_same x (Waiting a) = refl
 to_ask_same x (Answered a y) = refl
@@ -85,7 +85,7 @@ pub record Quiet (k : Model) (d : Did) : Type 0 where
   pub out : length k.lsu.opens ≡ 0 → Some (drain d.req d.core.lsu).req
 
 -- a load that was requested is open
-abbrev pub Busy : Load → List Open → Type 0
+abbrev pub Busy : Reading → List Open → Type 0
 Busy Idle ks = Unit {0}
 Busy (Waiting a) ks = 0 < length ks
 Busy (Answered a x) ks = Unit {0}
@@ -97,13 +97,13 @@ no_stop : (j : ℕ) → some j ≡ none → ⊥
 no_stop j e = let z : ◌≡◌ {A = ℕ} 0 1 = cc in omega arith
 
 module _ (gs : List ℕ) (p : ℕ) (f : Fetching) (row : List Store) (ks : List Open) where
-  abbrev K : Load → Model
+  abbrev K : Reading → Model
   K l = record { regs = gs; pc = p; fetch = f; lsu = record { row = row; opens = ks; load = l }; stop = none }
 
-  abbrev Calm : Load → Action → Type 0
+  abbrev Calm : Reading → Action → Type 0
   Calm l x = (apply (K l) x).rets ≡ [] → (apply (K l) x).core.stop ≡ none → Quiet (K l) (apply (K l) x)
 
-  calm_wait : (l : Load) → (length ks ≡ 0 → length row ≡ 0 → ⊥) → Calm l Wait
+  calm_wait : (l : Reading) → (length ks ≡ 0 → length row ≡ 0 → ⊥) → Calm l Wait
   calm_wait l h a b = record { same = refl; code = refl; out = λ o. drain_one_some (record { row = row; opens = ks; load = l }) row o (h o) }
 
   calm_ask : (b : ℕ) (t : Bool) → (t ≡ false → 4 ≤ length ks) → Calm Idle (pick t (Ask b) Wait)
@@ -123,20 +123,20 @@ module _ (gs : List ℕ) (p : ℕ) (f : Fetching) (row : List Store) (ks : List 
   calm_idle r b true = calm_device b (ltb (length ks) 4) (ltb-false (length ks) 4) row refl
   calm_idle r b false = calm_data r b (ltb (length ks) 4) (ltb-false (length ks) 4) (lookup row b)
 
-  calm_load : (r : Reg) (b : ℕ) (l : Load) → Busy l ks → Calm l (loading (K l) r b l)
+  calm_load : (r : Reg) (b : ℕ) (l : Reading) → Busy l ks → Calm l (loading (K l) r b l)
   calm_load r b Idle h = calm_idle r b (device b)
   calm_load r b (Waiting d) h = calm_wait (Waiting d) (λ o n. omega arith)
   calm_load r b (Answered d x) h = λ u v. absurd (no_rets _ _ u)
 
-  calm_push : (l : Load) (s : Store) (t : Bool) → (t ≡ false → 8 ≤ length row) → Calm l (pick t (Push s) Wait)
+  calm_push : (l : Reading) (s : Store) (t : Bool) → (t ≡ false → 8 ≤ length row) → Calm l (pick t (Push s) Wait)
   calm_push l s true t = λ u v. absurd (no_rets _ _ u)
   calm_push l s false t = let q : 8 ≤ length row = t refl in calm_wait l (λ o r. omega arith)
 
-  calm_halt : (l : Load) (j : Stop) (rr : List Store) → row ≡ rr → Calm l (if_drained rr (Halt j))
+  calm_halt : (l : Reading) (j : Stop) (rr : List Store) → row ≡ rr → Calm l (if_drained rr (Halt j))
   calm_halt l j [] e = λ u v. absurd (no_stop (how j) v)
   calm_halt l j (s ∷ rr) e = calm_wait l (λ o r. let z : length row ≡ suc (length rr) = ap length e in omega arith)
 
-  calm_act : (l : Load) → Busy l ks → (x : Outcome) → Calm l (act (K l) x)
+  calm_act : (l : Reading) → Busy l ks → (x : Outcome) → Calm l (act (K l) x)
   calm_act l h (Writes r x b) = λ u v. absurd (no_rets _ _ u)
   calm_act l h (Jumps b) = λ u v. absurd (no_rets _ _ u)
   calm_act l h (Loads r b) = calm_load r b l h

@@ -21,8 +21,8 @@ use Rattle.pins.proofs.Settling.{settled_laws}
 use Rattle.pins.proofs.Invariants.{invariant_laws}
 use Rattle.pins.proofs.Progressing.{progress_laws}
 use Rattle.first.specs.declared.state.Core.{Core}
-use Rattle.first.specs.declared.state.Load.{Load}
-use Rattle.first.specs.declared.state.Load.TheVariants.{Idle, Waiting, Answered}
+use Rattle.pins.specs.declared.held.Reading.{Reading}
+use Rattle.pins.specs.declared.held.Reading.TheVariants.{Idle, Waiting, Answered}
 use Rattle.first.specs.declared.state.Action.TheVariants.{Wait}
 use Rattle.first.specs.declared.state.Open.{Open}
 use Rattle.first.specs.Layout.{decode}
@@ -81,7 +81,7 @@ bounded_by c m a k v qc qd ec ed h =
     }
 
 -- a load that was requested is open, and while it is nothing is done
-busy_by : (p : Load) (f : Mem) (ks : List Open) (ds : List Due) → Tags p f ks ds → Busy p ks
+busy_by : (p : Reading) (f : Mem) (ks : List Open) (ds : List Due) → Tags p f ks ds → Busy p ks
 busy_by Idle f ks ds h = tt
 busy_by (Answered a x) f ks ds h = tt
 busy_by (Waiting a) f [] ds h = absurd h
@@ -90,7 +90,7 @@ busy_by (Waiting a) f (k ∷ ks) ds h = omega arith
 waits_by : (c : Code) (m : Mem) (a l : ℕ) (k : Model) (v : View) → Inv c m a k v → to_wait l k.lsu.load ≡ 0 → decide k ≡ Wait
 waits_by c m a l k v h z = by k.stop k.fetch.words refl
   where
-    at_load : (p : Load) → k.lsu.load ≡ p → to_wait l p ≡ 0 → Works c k.regs k.pc (final v k.lsu.row) p → (w : ℕ) → w ≡ c (k.pc / 4) → act k (work k.regs k.pc w) ≡ Wait
+    at_load : (p : Reading) → k.lsu.load ≡ p → to_wait l p ≡ 0 → Works c k.regs k.pc (final v k.lsu.row) p → (w : ℕ) → w ≡ c (k.pc / 4) → act k (work k.regs k.pc w) ≡ Wait
     at_load Idle e z n w q = absurd (omega arith)
     at_load (Answered b x) e z n w q = absurd (omega arith)
     at_load (Waiting b) e z (r, n) w q = ap (act k) (ap (work k.regs k.pc) q ∙ n) ∙ ap (loading k r b) e

@@ -10,20 +10,20 @@ use Rattle.isa.specs.declared.execute.Outcome.TheVariants.{Load as Loads}
 use Rattle.pins.specs.Says.{first}
 use Rattle.pins.specs.View.{View}
 use Rattle.pins.specs.Settled.{dues}
-use Rattle.first.specs.declared.state.Load.{Load}
-use Rattle.first.specs.declared.state.Load.TheVariants.{Idle, Waiting, Answered}
+use Rattle.pins.specs.declared.held.Reading.{Reading}
+use Rattle.pins.specs.declared.held.Reading.TheVariants.{Idle, Waiting, Answered}
 use Rattle.first.specs.Model.{Model}
 use Rattle.first.proofs.Fetched.{Fetched}
 use Rattle.first.proofs.Buffered.{row_evs, final}
 use Rattle.first.proofs.Requested.{Tags}
 
 -- a device's word that came for the load at work, and is not yet the manual's past; the reading of it
-abbrev pub unread : Load → List ℕ
+abbrev pub unread : Reading → List ℕ
 unread Idle = []
 unread (Waiting a) = []
 unread (Answered a x) = pick (device a) (x ∷ []) []
 
-abbrev pub asked_ev : Load → List Ev
+abbrev pub asked_ev : Reading → List Ev
 asked_ev Idle = []
 asked_ev (Waiting a) = pick (device a) (asks a ∷ []) []
 asked_ev (Answered a x) = pick (device a) (asks a ∷ []) []
@@ -33,7 +33,7 @@ abbrev pub stands_at : Model → Mem → S
 stands_at k f = record { regs = k.regs; pc = k.pc; mem = f; answers = unread k.lsu.load }
 
 -- a load that was requested is the instruction at work; an answer that came is what it loads
-abbrev pub Works : Code → List ℕ → ℕ → Mem → Load → Type 0
+abbrev pub Works : Code → List ℕ → ℕ → Mem → Reading → Type 0
 Works c gs p f Idle = Unit {0}
 Works c gs p f (Waiting a) = (r : Reg) × (work gs p (c (p / 4)) ≡ Loads r a)
 Works c gs p f (Answered a x) = (r : Reg) × (work gs p (c (p / 4)) ≡ Loads r a) × (device a ≡ false → x ≡ f (a / 4))

@@ -1,4 +1,3 @@
-pub mod Newest
 pub mod Queues
 pub mod FromFn
 pub mod Parts

@@ -6,14 +6,15 @@ use Rattle.std.proofs.lemmas.Bool.{eqb-true, eqb-false, ltb-true, ltb-false, and
 use Rattle.pins.specs.PortWords.{optional, request_of}
 use Rattle.pins.specs.declared.ports.Request.{Request}
 use Rattle.pins.specs.declared.ports.Request.TheVariants.{Read, Write}
-use Rattle.first.specs.declared.state.Store.{Store}
+use Rattle.pins.specs.declared.held.Store.{Store}
 use Rattle.first.specs.declared.state.Open.{Open}
 use Rattle.first.specs.declared.state.Open.TheVariants.{Acknowledgment, Load as ForLoad}
-use Rattle.first.specs.declared.state.Load.{Load}
-use Rattle.first.specs.declared.state.Load.TheVariants.{Idle, Waiting, Answered}
+use Rattle.pins.specs.declared.held.Reading.{Reading}
+use Rattle.pins.specs.declared.held.Reading.TheVariants.{Idle, Waiting, Answered}
 use Rattle.first.specs.declared.state.Lsu.{Lsu}
 use Rattle.first.specs.StoreRules.{no_store, entry, buffer_pop}
-use Rattle.first.specs.LsuRules.{OpenRequests, open_at, open_push, open_pop, load_answered, lsu_answered, lsu_take, lsu_room, drains, lsu_sent, lsu_drain, write_of, drain_request}
+use Rattle.pins.specs.Held.{write_of}
+use Rattle.first.specs.LsuRules.{OpenRequests, open_at, open_push, open_pop, load_answered, lsu_answered, lsu_take, lsu_room, drains, lsu_sent, lsu_drain, drain_request}
 use Rattle.first.specs.Model.{Storing, answer_load, answer, take_data, drain_if, drain_one, drain}
 use Rattle.first.proofs.Ring.{ring}
 use Rattle.first.proofs.Queues.{pushed_behind, oldest_taken, four_up}
@@ -38,7 +39,7 @@ opened_pop q h l =
 open_pop_sized : (q : OpenRequests) → SizedRequests q → SizedRequests (open_pop q)
 open_pop_sized q h = record { array = refl; few = omega (arith, h.few) }
 
-same_storing : {r s : List Store} {o p : List Open} {a b : Load} → r ≡ s → o ≡ p → a ≡ b
+same_storing : {r s : List Store} {o p : List Open} {a b : Reading} → r ≡ s → o ≡ p → a ≡ b
     → ◌≡◌ {A = Storing} (record { row = r; opens = o; load = a }) (record { row = s; opens = p; load = b })
 same_storing e f g = λ i. record { row = e i; opens = f i; load = g i }
 
@@ -47,7 +48,7 @@ answered_is : (d : Lsu) (x : ℕ) (o : Open) → storing (lsu_answered d x o) �
 answered_is d x Acknowledgment = refl
 answered_is d x ForLoad = same_storing refl refl (load_is d.load)
   where
-    load_is : (l : Load) → load_answered l x ≡ answer_load x l
+    load_is : (l : Reading) → load_answered l x ≡ answer_load x l
     load_is Idle = refl
     load_is (Waiting a) = refl
     load_is (Answered a y) = refl

@@ -5,8 +5,8 @@ use Rattle.pins.specs.Ports.{reads}
 use Rattle.pins.specs.Settled.{Due, any_word, from_device, that_word, due}
 use Rattle.first.specs.declared.state.Open.{Open}
 use Rattle.first.specs.declared.state.Open.TheVariants.{Acknowledgment, Load as ForLoad}
-use Rattle.first.specs.declared.state.Load.{Load}
-use Rattle.first.specs.declared.state.Load.TheVariants.{Idle, Waiting, Answered}
+use Rattle.pins.specs.declared.held.Reading.{Reading}
+use Rattle.pins.specs.declared.held.Reading.TheVariants.{Idle, Waiting, Answered}
 
 -- all are stores'
 abbrev pub Acks : List Open → List Due → Type 0
@@ -29,7 +29,7 @@ OneLoad d (ForLoad ∷ ks) [] = ⊥
 OneLoad d (ForLoad ∷ ks) (e ∷ ds) = (e ≡ d) × Acks ks ds
 
 -- a load that waits is open, and will be answered with the device's word or what memory f holds there
-abbrev pub Tags : Load → Mem → List Open → List Due → Type 0
+abbrev pub Tags : Reading → Mem → List Open → List Due → Type 0
 Tags Idle f ks ds = Acks ks ds
 Tags (Waiting a) f ks ds = OneLoad (due f (reads a)) ks ds
 Tags (Answered a x) f ks ds = Acks ks ds
@@ -53,7 +53,7 @@ load_store d (Acknowledgment ∷ ks) (that_word y ∷ ds) h = absurd h
 load_store d (ForLoad ∷ ks) [] h = absurd h
 load_store d (ForLoad ∷ ks) (e ∷ ds) (q, h) = (q, acks_store ks ds h)
 
-pub tags_store : (l : Load) (f : Mem) (ks : List Open) (ds : List Due) → Tags l f ks ds → Tags l f (ks ++ (Acknowledgment ∷ [])) (ds ++ (any_word ∷ []))
+pub tags_store : (l : Reading) (f : Mem) (ks : List Open) (ds : List Due) → Tags l f ks ds → Tags l f (ks ++ (Acknowledgment ∷ [])) (ds ++ (any_word ∷ []))
 tags_store Idle f ks ds h = acks_store ks ds h
 tags_store (Waiting a) f ks ds h = load_store (due f (reads a)) ks ds h
 tags_store (Answered a x) f ks ds h = acks_store ks ds h
@@ -87,7 +87,7 @@ load_count d (Acknowledgment ∷ ks) (that_word y ∷ ds) h = absurd h
 load_count d (ForLoad ∷ ks) [] h = absurd h
 load_count d (ForLoad ∷ ks) (e ∷ ds) h = ap suc (acks_count ks ds h.1)
 
-pub tags_count : (l : Load) (f : Mem) (ks : List Open) (ds : List Due) → Tags l f ks ds → length ks ≡ length ds
+pub tags_count : (l : Reading) (f : Mem) (ks : List Open) (ds : List Due) → Tags l f ks ds → length ks ≡ length ds
 tags_count Idle f ks ds h = acks_count ks ds h
 tags_count (Waiting a) f ks ds h = load_count (due f (reads a)) ks ds h
 tags_count (Answered a x) f ks ds h = acks_count ks ds h

@@ -11,9 +11,9 @@ use Rattle.isa.proofs.Does.{step_is}
 use Rattle.isa.proofs.RunSteps.{run_laws, evs_suc}
 use Rattle.pins.specs.Says.{Front, none_yet, and_so, first}
 use Rattle.pins.specs.View.{View, RightView}
-use Rattle.first.specs.declared.state.Store.{Store}
-use Rattle.first.specs.declared.state.Load.{Load}
-use Rattle.first.specs.declared.state.Load.TheVariants.{Idle, Waiting, Answered}
+use Rattle.pins.specs.declared.held.Store.{Store}
+use Rattle.pins.specs.declared.held.Reading.{Reading}
+use Rattle.pins.specs.declared.held.Reading.TheVariants.{Idle, Waiting, Answered}
 use Rattle.first.specs.Model.{Model}
 use Rattle.first.proofs.Buffered.{row_evs, row_evs_length, final}
 use Rattle.first.proofs.Invariant.{unread, asked_ev, stands_at, Works, Halts, Runs, Inv}
@@ -37,10 +37,10 @@ module _ (c : Code) (m : Mem) (a : ℕ) (k : Model) (f : Mem) (told : List ℕ) 
   ran xs n = run c (first a m (told ++ xs)) n
 
   -- the reading of a device at work is the next instruction's, if the device answers
-  NextAsks : Load → Type 0
+  NextAsks : Reading → Type 0
   NextAsks l = (xs : List ℕ) × (fs : List Ev) × ((ran xs (suc (length rets))).evs ≡ ((run c (first a m told) (length rets)).evs ++ asked_ev l) ++ fs)
 
-  asks_nothing : (l : Load) → asked_ev l ≡ [] → NextAsks l
+  asks_nothing : (l : Reading) → asked_ev l ≡ [] → NextAsks l
   unfolding NextAsks
   asks_nothing l e =
       let b = run_laws.evs_begin c (first a m told) (length rets) 1 in (
@@ -52,7 +52,7 @@ module _ (c : Code) (m : Mem) (a : ℕ) (k : Model) (f : Mem) (told : List ℕ) 
             ∙ ap (λ (es : List Ev). es ++ b.rest) (sym (append-nil (run c (first a m told) (length rets)).evs) ∙ ap (λ (es : List Ev). (run c (first a m told) (length rets)).evs ++ es) (sym e)),
       )
 
-  works_at : (l : Load) → k.lsu.load ≡ l → Works c k.regs k.pc f l
+  works_at : (l : Reading) → k.lsu.load ≡ l → Works c k.regs k.pc f l
   works_at l e = subst (Works c k.regs k.pc f) e h.works
 
   asks_waiting : (b : ℕ) → k.lsu.load ≡ Waiting b → (dv : Bool) → device b ≡ dv → NextAsks (Waiting b)
@@ -63,7 +63,7 @@ module _ (c : Code) (m : Mem) (a : ℕ) (k : Model) (f : Mem) (told : List ℕ) 
       let w = works_at (Waiting b) e in (
         0 ∷ [],
         [],
-        asks_step c (first a m (told ++ (0 ∷ []))) (length rets) (more_answers (stands_at k f) (0 ∷ [])) w.0 b 0 [] r.at w.1 dv (ap (λ (l : Load). unread l ++ (0 ∷ [])) e)
+        asks_step c (first a m (told ++ (0 ∷ []))) (length rets) (more_answers (stands_at k f) (0 ∷ [])) w.0 b 0 [] r.at w.1 dv (ap (λ (l : Reading). unread l ++ (0 ∷ [])) e)
             ∙ ap (λ (es : List Ev). es ++ (asks b ∷ [])) (sym r.evs) ∙ sym (append-nil _)
             ∙ ap (λ (x : Bool). ((run c (first a m told) (length rets)).evs ++ pick x (asks b ∷ []) []) ++ []) (sym dv),
       )
@@ -80,7 +80,7 @@ module _ (c : Code) (m : Mem) (a : ℕ) (k : Model) (f : Mem) (told : List ℕ) 
             ∙ sym (append-nil _) ∙ ap (λ (y : Bool). ((run c (first a m told) (length rets)).evs ++ pick y (asks b ∷ []) []) ++ []) (sym dv),
       )
 
-  asks_now : (l : Load) → k.lsu.load ≡ l → NextAsks l
+  asks_now : (l : Reading) → k.lsu.load ≡ l → NextAsks l
   asks_now Idle e = asks_nothing Idle refl
   asks_now (Waiting b) e = asks_waiting b e (device b) refl
   asks_now (Answered b x) e = asks_answered b x e (device b) refl
@@ -101,7 +101,7 @@ module _ (c : Code) (m : Mem) (a : ℕ) (k : Model) (f : Mem) (told : List ℕ) 
       let s = subst (Halts c k f) e h.halts in (
         s.0,
         ap (λ (r : Run). r.is) (run_laws.one_more h.at s.1),
-        sym (append-nil evs) ∙ sym (ap (λ (r : List Store). evs ++ row_evs r) s.2) ∙ h.did ∙ ap (λ (l : Load). (run c (first a m told) (length rets)).evs ++ asked_ev l) s.3 ∙ append-nil (run c (first a m told) (length rets)).evs,
+        sym (append-nil evs) ∙ sym (ap (λ (r : List Store). evs ++ row_evs r) s.2) ∙ h.did ∙ ap (λ (l : Reading). (run c (first a m told) (length rets)).evs ++ asked_ev l) s.3 ∙ append-nil (run c (first a m told) (length rets)).evs,
       )
 
 pub right_now : (c : Code) (m : Mem) (a : ℕ) (k : Model) (v : View) → Inv c m a k v → v.stopped ≡ k.stop → RightView c m a v

@@ -5,8 +5,8 @@ use Rattle.std.proofs.lemmas.Bool.{le-ltb}
 use Rattle.std.proofs.lemmas.Bool.Decides.{nat_tests}
 use Rattle.isa.specs.declared.execute.Stop.{Stop}
 use Rattle.first.specs.declared.state.Fetch.{Fetch}
-use Rattle.first.specs.declared.state.Load.{Load}
-use Rattle.first.specs.declared.state.Load.TheVariants.{Idle, Waiting, Answered}
+use Rattle.pins.specs.declared.held.Reading.{Reading}
+use Rattle.pins.specs.declared.held.Reading.TheVariants.{Idle, Waiting, Answered}
 use Rattle.first.specs.declared.state.Core.{Core}
 use Rattle.first.specs.StoreRules.{StoreBuffer}
 use Rattle.first.specs.LsuRules.{OpenRequests}
@@ -18,7 +18,7 @@ stores_length : (b : StoreBuffer) → length (stores_words b) ≡ 18
 unfolding stores_words
 stores_length b = refl
 
-load_length : (d : Load) → length (load_words d) ≡ 3
+load_length : (d : Reading) → length (load_words d) ≡ 3
 load_length Idle = refl
 load_length (Waiting a) = refl
 load_length (Answered a x) = refl
@@ -28,7 +28,7 @@ at_part : (p x q w : List ℕ) (a k : ℕ) → w ≡ p ++ (x ++ q) → length p 
 at_part p x q w a k e h l = rw e (rw (drop_at p (x ++ q) a h) (take_at x q k l))
 
 core_same :
-    (k : Core) {g : List ℕ} {f : Fetch} {b : StoreBuffer} {q : OpenRequests} {d : Load} {h : Option Stop}
+    (k : Core) {g : List ℕ} {f : Fetch} {b : StoreBuffer} {q : OpenRequests} {d : Reading} {h : Option Stop}
     → g ≡ k.regs.values → f ≡ k.fetch → b ≡ k.lsu.stores → q ≡ k.lsu.requests → d ≡ k.lsu.load → h ≡ k.stopped
     → ◌≡◌ {A = Core} (record { regs = record { values = g }; pc = k.pc; number = record { 0 = k.number.0 }; fetch = f; lsu = record { stores = b; requests = q; load = d }; stopped = h }) k
 core_same k eg ef eb eq ed eh =

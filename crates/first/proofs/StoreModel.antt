@@ -4,7 +4,7 @@ use mathlib.Core.Option.{Option as Opt, some, none}
 use Rattle.std.proofs.lemmas.Bool.{lt-ltb, le-ltb, cases_lt}
 use Rattle.isa.specs.Words.{add, pick, opt}
 use Rattle.pins.specs.PortWords.{plain}
-use Rattle.first.specs.declared.state.Store.{Store}
+use Rattle.pins.specs.declared.held.Store.{Store}
 use Rattle.first.specs.StoreRules.{StoreBuffer, no_store, slot, entry, buffer_push, buffer_pop, here, newest_below, newest, value_at, forwarded}
 use Rattle.first.specs.Model.{lookup}
 use Rattle.first.proofs.Ring.{ring, ring_length, ring_turn, ring_push, ring_last}

@@ -10,11 +10,11 @@ use Rattle.pins.specs.Ports.{In, Req}
 use Rattle.pins.specs.Outside.{ev_of}
 use Rattle.pins.specs.View.{pop}
 use Rattle.pins.specs.Waits.{aged, age0}
-use Rattle.first.specs.declared.state.Store.{Store}
+use Rattle.pins.specs.declared.held.Store.{Store}
 use Rattle.first.specs.declared.state.Open.{Open}
 use Rattle.first.specs.declared.state.Open.TheVariants.{Acknowledgment, Load as ForLoad}
-use Rattle.first.specs.declared.state.Load.{Load}
-use Rattle.first.specs.declared.state.Load.TheVariants.{Idle, Waiting, Answered}
+use Rattle.pins.specs.declared.held.Reading.{Reading}
+use Rattle.pins.specs.declared.held.Reading.TheVariants.{Idle, Waiting, Answered}
 use Rattle.first.specs.declared.state.Action.{Action}
 use Rattle.first.specs.declared.state.Action.TheVariants.{Wait, Halt, Write, Jump, Push, Ask}
 use Rattle.first.specs.Model.{Storing, Model, Did, answer, answer_load, take_data, taken, if_drained, loading, act, work_on, decide, apply, drain, drain_one, drain_if, Drained, model_next}
@@ -23,7 +23,7 @@ use Rattle.first.proofs.DataFalls.{Some, oldest_falls}
 use Rattle.first.proofs.RankFalls.{Bounded}
 
 -- the time until the load at work has had the port, and the oldest request its answer
-abbrev pub to_wait : ℕ → Load → ℕ
+abbrev pub to_wait : ℕ → Reading → ℕ
 to_wait l Idle = l + 2
 to_wait l (Waiting a) = 0
 to_wait l (Answered a x) = l + 2
@@ -31,7 +31,7 @@ to_wait l (Answered a x) = l + 2
 abbrev pub store_rank : ℕ → Model → List ℕ → ℕ
 store_rank l k qd = to_wait l k.lsu.load + left l 0 qd
 
-to_wait_most : (l : ℕ) (p : Load) → to_wait l p ≤ l + 2
+to_wait_most : (l : ℕ) (p : Reading) → to_wait l p ≤ l + 2
 to_wait_most l Idle = omega arith
 to_wait_most l (Waiting a) = omega arith
 to_wait_most l (Answered a x) = omega arith
@@ -50,7 +50,7 @@ record Stays (l : ℕ) (k : Model) (d : Did) : Type 0 where
   load : None d.req → to_wait l d.core.lsu.load ≤ to_wait l k.lsu.load
   asked : Some d.req → to_wait l d.core.lsu.load ≡ 0
 
-full_wait : (l : ℕ) (p : Load) → (to_wait l p ≡ 0 → ⊥) → to_wait l p ≡ l + 2
+full_wait : (l : ℕ) (p : Reading) → (to_wait l p ≡ 0 → ⊥) → to_wait l p ≡ l + 2
 full_wait l Idle h = refl
 full_wait l (Waiting a) h = absurd (h refl)
 full_wait l (Answered a x) h = refl
@@ -64,7 +64,7 @@ stays l k (Push s) h = let n = full_wait l k.lsu.load (λ z. let e = h z in let 
 stays l k (Ask b) h = record { row = omega arith; opens = λ q. absurd q; load = λ q. absurd q; asked = λ q. refl }
 
 -- a load is requested only where none was
-asks_act : (k : Model) (p : Load) → k.lsu.load ≡ p → (x : Outcome) → Some (apply k (act k x)).req → p ≡ Idle
+asks_act : (k : Model) (p : Reading) → k.lsu.load ≡ p → (x : Outcome) → Some (apply k (act k x)).req → p ≡ Idle
 asks_act k p e (Writes r x b) h = absurd h
 asks_act k p e (Jumps b) h = absurd h
 asks_act k p e (Stores b x) h = by (ltb (length k.lsu.row) 8) h
@@ -77,9 +77,9 @@ asks_act k p e (Halts j) h = by k.lsu.row h
     by : (r : List Store) → Some (apply k (if_drained r (Halt j))).req → p ≡ Idle
     by [] h = absurd h
     by (s ∷ r) h = absurd h
-asks_act k p e (Loads r b) h = by p (subst (λ (q : Load). Some (apply k (loading k r b q)).req) e h)
+asks_act k p e (Loads r b) h = by p (subst (λ (q : Reading). Some (apply k (loading k r b q)).req) e h)
   where
-    by : (q : Load) → Some (apply k (loading k r b q)).req → q ≡ Idle
+    by : (q : Reading) → Some (apply k (loading k r b q)).req → q ≡ Idle
     by Idle h = refl
     by (Waiting a) h = absurd h
     by (Answered a x) h = absurd h
@@ -106,7 +106,7 @@ idle_taken : (i : Option ℕ) (d : Storing) → (take_data i d).load ≡ Idle �
 idle_taken none d e = e
 idle_taken (some x) d e = by d.opens e
   where
-    idle_load : (p : Load) → answer_load x p ≡ Idle → p ≡ Idle
+    idle_load : (p : Reading) → answer_load x p ≡ Idle → p ≡ Idle
     idle_load Idle e = refl
     idle_load (Waiting a) e = let z : ◌≡◌ {A = ℕ} 0 1 = cc in absurd (omega arith)
     idle_load (Answered a y) e = e

@@ -20,11 +20,11 @@ use Rattle.pins.specs.View.{View, ask_data}
 use Rattle.pins.specs.View as view
 use Rattle.pins.specs.Settled.{from_device, that_word, due, dues, flushed}
 use Rattle.pins.proofs.Settling.{settled_laws}
-use Rattle.first.specs.declared.state.Store.{Store}
+use Rattle.pins.specs.declared.held.Store.{Store}
 use Rattle.first.specs.declared.state.Open.{Open}
 use Rattle.first.specs.declared.state.Open.TheVariants.{Load as ForLoad}
-use Rattle.first.specs.declared.state.Load.{Load}
-use Rattle.first.specs.declared.state.Load.TheVariants.{Idle, Waiting, Answered}
+use Rattle.pins.specs.declared.held.Reading.{Reading}
+use Rattle.pins.specs.declared.held.Reading.TheVariants.{Idle, Waiting, Answered}
 use Rattle.first.specs.declared.state.Action.TheVariants.{Wait, Halt, Write, Push, Ask}
 use Rattle.first.specs.Model.{Fetching, Model, lookup, if_drained, loading, act, work_on, decide, Did, retired, apply}
 use Rattle.first.proofs.Fetched.{refetch_kept, at_word}
@@ -105,17 +105,17 @@ module _ (c : Code) (m : Mem) (a : ℕ) (v : View) where
   Keeps d = Inv c m a d.core (did_view d v)
 
   module _ (gs : List ℕ) (p : ℕ) (f : Fetching) (row : List Store) (ks : List Open) (w : ℕ) (us : List ℕ) (ws : f.words ≡ w ∷ us) where
-    abbrev K : Load → Model
+    abbrev K : Reading → Model
     K l = record { regs = gs; pc = p; fetch = f; lsu = record { row = row; opens = ks; load = l }; stop = none }
 
     abbrev outcome : Outcome
     outcome = work gs p (c (p / 4))
 
-    abbrev here : Load → S
+    abbrev here : Reading → S
     here l = stands_at (K l) (final v row)
 
     -- what the manual does here
-    steps : (l : Load) (x : Outcome) → outcome ≡ x → step c (here l) ≡ enact (here l) x
+    steps : (l : Reading) (x : Outcome) → outcome ≡ x → step c (here l) ≡ enact (here l) x
     steps l x e = step_is c (here l) ∙ ap (enact (here l)) e
 
     halt_kept : (s : Stop) → Inv c m a (K Idle) v → outcome ≡ Halts s → (r : List Store) → row ≡ r → Keeps (apply (K Idle) (if_drained r (Halt s)))
@@ -195,7 +195,7 @@ module _ (c : Code) (m : Mem) (a : ℕ) (v : View) where
         ∙ ap (λ (y : ℕ). wrote (here Idle) r.number y (add p 4)) is_x)
         h.runs.did h.room
 
-    load_kept : (r : Reg) (b : ℕ) (l : Load) → Inv c m a (K l) v → outcome ≡ Loads r b → Keeps (apply (K l) (loading (K l) r b l))
+    load_kept : (r : Reg) (b : ℕ) (l : Reading) → Inv c m a (K l) v → outcome ≡ Loads r b → Keeps (apply (K l) (loading (K l) r b l))
     load_kept r b (Waiting d) h e = h
     load_kept r b (Answered d x) h e = let q = h.runs.works.1 in answered_kept r b d x h e (cc)
     load_kept r b Idle h e = by (device b) refl
@@ -208,7 +208,7 @@ module _ (c : Code) (m : Mem) (a : ℕ) (v : View) where
     not_load : (d : ℕ) (r : Reg) (x : Outcome) {A : Type 0} → outcome ≡ x → outcome ≡ Loads r d → is_load x ≡ false → A
     not_load d r x e q n = absurd (no_load outcome x r d e q n)
 
-    act_kept : (l : Load) → Inv c m a (K l) v → (x : Outcome) → outcome ≡ x → Keeps (apply (K l) (act (K l) x))
+    act_kept : (l : Reading) → Inv c m a (K l) v → (x : Outcome) → outcome ≡ x → Keeps (apply (K l) (act (K l) x))
     act_kept l h (Loads r b) e = load_kept r b l h e
     act_kept Idle h (Writes r x b) e = retire_kept c m a (K Idle) v w us ws refl h.tags h (put gs r.number x) b row _ [] (steps Idle (Writes r x b) e) h.runs.did h.room
     act_kept Idle h (Jumps b) e = retire_kept c m a (K Idle) v w us ws refl h.tags h gs b row _ [] (steps Idle (Jumps b) e) h.runs.did h.room

@@ -9,9 +9,9 @@ use Rattle.isa.specs.declared.execute.Stop.{Stop}
 use Rattle.isa.specs.declared.execute.Outcome.{Outcome}
 use Rattle.isa.specs.declared.execute.Outcome.TheVariants.{Write as Writes, Jump as Jumps, Load as Loads, Store as Stores, Halt as Halts}
 use Rattle.pins.specs.PortWords.{plain, stop_word}
-use Rattle.first.specs.declared.state.Store.{Store}
-use Rattle.first.specs.declared.state.Load.{Load}
-use Rattle.first.specs.declared.state.Load.TheVariants.{Idle, Waiting, Answered}
+use Rattle.pins.specs.declared.held.Store.{Store}
+use Rattle.pins.specs.declared.held.Reading.{Reading}
+use Rattle.pins.specs.declared.held.Reading.TheVariants.{Idle, Waiting, Answered}
 use Rattle.first.specs.declared.state.Core.{Core}
 use Rattle.first.specs.declared.state.Action.{Action}
 use Rattle.first.specs.declared.state.Action.TheVariants.{Wait, Halt, Write, Push, Ask}
@@ -51,7 +51,7 @@ module _ (k : Core) (h : Sized k) where
   forward_or_ask_is r a None = ap (λ b. cond b (Ask a) Wait) (room_is k.lsu h.requests) ∙ cond_pick (ltb (length (opened k.lsu.requests)) 4) (Ask a) Wait
   forward_or_ask_is r a (Some x) = refl
 
-  loading_is : (r : Reg) (a : ℕ) (l : Load) → load_action k r a l ≡ loading (model_of k) r a l
+  loading_is : (r : Reg) (a : ℕ) (l : Reading) → load_action k r a l ≡ loading (model_of k) r a l
   loading_is r a (Waiting b) = refl
   loading_is r a (Answered b x) = refl
   loading_is r a Idle =

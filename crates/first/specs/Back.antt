@@ -8,8 +8,8 @@ use Rattle.isa.specs.declared.execute.Stop.TheVariants.{EnvCall, Illegal, Misali
 use Rattle.first.specs.declared.state.Fetch.{Fetch}
 use Rattle.first.specs.declared.state.Open.{Open}
 use Rattle.first.specs.declared.state.Open.TheVariants.{Acknowledgment, Load as ForLoad}
-use Rattle.first.specs.declared.state.Load.{Load}
-use Rattle.first.specs.declared.state.Load.TheVariants.{Idle, Waiting, Answered}
+use Rattle.pins.specs.declared.held.Reading.{Reading}
+use Rattle.pins.specs.declared.held.Reading.TheVariants.{Idle, Waiting, Answered}
 use Rattle.first.specs.StoreRules.{StoreBuffer, no_store}
 use Rattle.first.specs.LsuRules.{OpenRequests, open_at}
 use Rattle.first.specs.Layout.{stop_of, stop_tag, regs_of, fetch_of, fetch_words, load_of, load_words, open_of, open_tag, requests_of, requests_words, stores_of, stores_words}
@@ -28,7 +28,7 @@ fetch_back f h =
     let e = fill_by_all (λ (k : ℕ). get_or f.words.at k 0) f.words.at 2 0 h (λ k l. refl) in
     λ i. record { words = record { count = f.words.count; at = sym e i }; coming = f.coming; stale = f.stale; next = f.next }
 
-pub load_back : (d : Load) → ⊤ → load_of (load_words d) ≡ d
+pub load_back : (d : Reading) → ⊤ → load_of (load_words d) ≡ d
 load_back Idle t = refl
 load_back (Waiting a) t = refl
 load_back (Answered a x) t = refl

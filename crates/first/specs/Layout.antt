@@ -14,11 +14,11 @@ use Rattle.isa.specs.declared.regs.Regs.{Regs}
 use Rattle.isa.specs.declared.execute.Stop.{Stop}
 use Rattle.isa.specs.declared.execute.Stop.TheVariants.{EnvCall, Illegal, Misaligned}
 use Rattle.first.specs.declared.state.Fetch.{Fetch}
-use Rattle.first.specs.declared.state.Store.{Store}
+use Rattle.pins.specs.declared.held.Store.{Store}
 use Rattle.first.specs.declared.state.Open.{Open}
 use Rattle.first.specs.declared.state.Open.TheVariants.{Acknowledgment, Load as ForLoad}
-use Rattle.first.specs.declared.state.Load.{Load}
-use Rattle.first.specs.declared.state.Load.TheVariants.{Idle, Waiting, Answered}
+use Rattle.pins.specs.declared.held.Reading.{Reading}
+use Rattle.pins.specs.declared.held.Reading.TheVariants.{Idle, Waiting, Answered}
 use Rattle.first.specs.declared.state.Core.{Core}
 use Rattle.first.specs.StoreRules.{StoreBuffer, no_store}
 use Rattle.first.specs.LsuRules.{OpenRequests, open_at}
@@ -39,7 +39,7 @@ regs_of w = record { values = w }
 abbrev pub fetch_of : List ℕ → Fetch
 fetch_of w = record { words = record { count = word w 0; at = word w 1 ∷ word w 2 ∷ [] }; coming = word w 3; stale = word w 4; next = word w 5 }
 
-abbrev pub load_of : List ℕ → Load
+abbrev pub load_of : List ℕ → Reading
 load_of w = cond (word w 0 == 0) Idle (cond (word w 0 == 1) (Waiting (word w 1)) (Answered (word w 1) (word w 2)))
 
 abbrev pub open_of : ℕ → Open
@@ -80,7 +80,7 @@ head_words k = mark ∷ k.pc ∷ k.number.0 ∷ stop_tag k.stopped ∷ []
 abbrev pub fetch_words : Fetch → List ℕ
 fetch_words f = f.words.count ∷ word f.words.at 0 ∷ word f.words.at 1 ∷ f.coming ∷ f.stale ∷ f.next ∷ []
 
-abbrev pub load_words : Load → List ℕ
+abbrev pub load_words : Reading → List ℕ
 load_words Idle = 0 ∷ 0 ∷ 0 ∷ []
 load_words (Waiting a) = 1 ∷ a ∷ 0 ∷ []
 load_words (Answered a x) = 2 ∷ a ∷ x ∷ []

@@ -4,11 +4,12 @@ use Rattle.isa.specs.Words.{add}
 use Rattle.rings.specs.declared.queue.Queue.{Queue}
 use Rattle.pins.specs.declared.ports.Request.{Request}
 use Rattle.pins.specs.declared.ports.Request.TheVariants.{Write}
-use Rattle.first.specs.declared.state.Store.{Store}
+use Rattle.pins.specs.declared.held.Store.{Store}
 use Rattle.first.specs.declared.state.Open.{Open}
 use Rattle.first.specs.declared.state.Open.TheVariants.{Acknowledgment, Load as ForLoad}
-use Rattle.first.specs.declared.state.Load.{Load}
-use Rattle.first.specs.declared.state.Load.TheVariants.{Idle, Waiting, Answered}
+use Rattle.pins.specs.Held.{write_of, answered}
+use Rattle.pins.specs.declared.held.Reading.{Reading}
+use Rattle.pins.specs.declared.held.Reading.TheVariants.{Idle, Waiting, Answered}
 use Rattle.first.specs.declared.state.Lsu.{Lsu}
 use Rattle.first.specs.StoreRules.{buffer_start, entry, buffer_pop}
 
@@ -32,10 +33,8 @@ abbrev pub lsu_start : Lsu
 lsu_start = record { stores = buffer_start; requests = open_start; load = Idle }
 
 -- an answer comes: to a store it says nothing, to the load it is the word
-abbrev pub load_answered : Load → ℕ → Load
-load_answered Idle x = Idle
-load_answered (Waiting a) x = Answered a x
-load_answered (Answered a y) x = Answered a y
+abbrev pub load_answered : Reading → ℕ → Reading
+load_answered d x = answered x d
 
 abbrev pub lsu_answered : Lsu → ℕ → Open → Lsu
 lsu_answered d x Acknowledgment = record { stores = d.stores; requests = open_pop d.requests; load = d.load }
@@ -62,9 +61,6 @@ lsu_sent d = record { stores = buffer_pop d.stores; requests = open_push d.reque
 abbrev pub lsu_drain : Lsu → Option Request → Lsu
 lsu_drain d None = cond (drains d) (lsu_sent d) d
 lsu_drain d (Some r) = d
-
-abbrev pub write_of : Store → Request
-write_of s = Write s.address s.value
 
 abbrev pub drain_request : Lsu → Option Request → Option Request
 drain_request d None = cond (drains d) (Some (write_of (entry d.stores 0))) None

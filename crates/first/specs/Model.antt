@@ -8,11 +8,11 @@ use Rattle.isa.specs.declared.reg.Reg.{Reg}
 use Rattle.isa.specs.declared.execute.Outcome.{Outcome}
 use Rattle.isa.specs.declared.execute.Outcome.TheVariants.{Write as Writes, Jump as Jumps, Load as Loads, Store as Stores, Halt as Halts}
 use Rattle.pins.specs.Ports.{In, Out, Req, reads, writes1}
-use Rattle.first.specs.declared.state.Store.{Store}
+use Rattle.pins.specs.declared.held.Store.{Store}
 use Rattle.first.specs.declared.state.Open.{Open}
 use Rattle.first.specs.declared.state.Open.TheVariants.{Acknowledgment, Load as ForLoad}
-use Rattle.first.specs.declared.state.Load.{Load}
-use Rattle.first.specs.declared.state.Load.TheVariants.{Idle, Waiting, Answered}
+use Rattle.pins.specs.declared.held.Reading.{Reading}
+use Rattle.pins.specs.declared.held.Reading.TheVariants.{Idle, Waiting, Answered}
 use Rattle.first.specs.declared.state.Action.{Action}
 use Rattle.first.specs.declared.state.Action.TheVariants.{Wait, Halt, Write, Jump, Push, Ask}
 
@@ -27,7 +27,7 @@ pub record Fetching : Type 0 where
 pub record Storing : Type 0 where
   pub row : List Store
   pub opens : List Open
-  pub load : Load
+  pub load : Reading
 
 pub record Model : Type 0 where
   pub regs : List ℕ
@@ -40,7 +40,7 @@ abbrev pub model_start : ℕ → Model
 model_start a = record { regs = replicate 32 0; pc = a; fetch = record { words = []; coming = 0; stale = 0; at = a }; lsu = record { row = []; opens = []; load = Idle }; stop = none }
 
 -- an answer to a request
-abbrev pub answer_load : ℕ → Load → Load
+abbrev pub answer_load : ℕ → Reading → Reading
 answer_load x Idle = Idle
 answer_load x (Waiting a) = Answered a x
 answer_load x (Answered a y) = Answered a y
@@ -64,7 +64,7 @@ abbrev pub if_drained : List Store → Action → Action
 if_drained [] x = x
 if_drained (p ∷ ps) x = Wait
 
-abbrev pub loading : Model → Reg → ℕ → Load → Action
+abbrev pub loading : Model → Reg → ℕ → Reading → Action
 loading k r a (Answered b x) = Write r x (add k.pc 4)
 loading k r a (Waiting b) = Wait
 loading k r a Idle = pick (device a)

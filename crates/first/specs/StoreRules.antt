@@ -1,8 +1,9 @@
 -- The store buffer's rules.
 use Rattle.std.specs.Prelude.{ℕ, zero, suc, ◌+◌, ◌-◌, ◌/◌, ◌%◌, Bool, cond, ◌&&◌, replicate, Some, None, Option, ◌==◌, nat_lt, slice_index_or, slice_set}
 use Rattle.isa.specs.Words.{add}
+use Rattle.rings.specs.Searches.{newest_below as newest_of}
 use Rattle.rings.specs.declared.ring.Ring.{Ring}
-use Rattle.first.specs.declared.state.Store.{Store}
+use Rattle.pins.specs.declared.held.Store.{Store}
 
 -- a ring of eight stores
 abbrev pub StoreBuffer : Type 0
@@ -32,8 +33,7 @@ abbrev pub here : StoreBuffer → ℕ → ℕ → Bool
 here b a n = nat_lt n b.count && (entry b n).address / 4 == a / 4
 
 abbrev pub newest_below : StoreBuffer → ℕ → ℕ → Option ℕ
-newest_below b a zero = None
-newest_below b a (suc n) = cond (here b a n) (Some n) (newest_below b a n)
+newest_below b a n = newest_of (here b a) n
 
 unfoldable pub newest : StoreBuffer → ℕ → Option ℕ
 newest b a = newest_below b a 8

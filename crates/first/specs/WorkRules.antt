@@ -10,8 +10,8 @@ use Rattle.isa.specs.declared.execute.Outcome.{Outcome}
 use Rattle.isa.specs.declared.execute.Outcome.TheVariants.{Write as Writes, Jump as Jumps, Load as Loads, Store as Stores, Halt as Halts}
 use Rattle.pins.specs.declared.ports.Request.TheVariants.{Read}
 use Rattle.pins.specs.PortWords.{done_none, done_one}
-use Rattle.first.specs.declared.state.Load.{Load}
-use Rattle.first.specs.declared.state.Load.TheVariants.{Idle, Waiting, Answered}
+use Rattle.pins.specs.declared.held.Reading.{Reading}
+use Rattle.pins.specs.declared.held.Reading.TheVariants.{Idle, Waiting, Answered}
 use Rattle.first.specs.declared.state.Lsu.{Lsu}
 use Rattle.first.specs.declared.state.Core.{Core}
 use Rattle.first.specs.declared.state.Action.{Action}
@@ -35,7 +35,7 @@ abbrev pub forward_or_ask : Core → Reg → ℕ → Option ℕ → Action
 forward_or_ask k rd a None = cond (lsu_room k.lsu) (Ask a) Wait
 forward_or_ask k rd a (Some x) = Write rd x (add k.pc 4)
 
-abbrev pub load_action : Core → Reg → ℕ → Load → Action
+abbrev pub load_action : Core → Reg → ℕ → Reading → Action
 load_action k rd a Idle = cond (device a) (ask_device k a) (forward_or_ask k rd a (forwarded k.lsu.stores a))
 load_action k rd a (Waiting b) = Wait
 load_action k rd a (Answered b x) = Write rd x (add k.pc 4)

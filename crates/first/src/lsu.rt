@@ -1,36 +1,12 @@
 // The load-store unit: open requests in order, the load at work, and the stores that wait.
 ghost use Rattle.std.specs.Prelude.{◌≡◌};
-ghost use Rattle.first.specs.LsuRules.{lsu_start, load_answered, lsu_take, lsu_ask, lsu_room, drains, lsu_drain, drain_request, write_of};
+ghost use Rattle.first.specs.LsuRules.{lsu_start, lsu_take, lsu_ask, lsu_room, drains, lsu_drain, drain_request};
 
-use crate::state::{Load, Lsu, Open, Store};
+use crate::state::{Lsu, Open};
+use pins::held::{Reading, Store};
 use pins::ports::Request;
 use rings::queue::Queue;
 use rings::ring::Ring;
-
-impl Load {
-    fn answered(self, word: u32) -> Load
-        ensures { result ≡ load_answered self word }
-    {
-        match self {
-            Load::Waiting { address } => Load::Answered {
-                address,
-                value: word,
-            },
-            other => other,
-        }
-    }
-}
-
-impl From<Store> for Request {
-    ghost from_gives = { λ store request. request ≡ write_of store };
-
-    fn from(store: Store) -> Request {
-        Request::Write {
-            address: store.address,
-            value: store.value,
-        }
-    }
-}
 
 impl Lsu {
     pub fn start() -> Lsu
@@ -42,7 +18,7 @@ impl Lsu {
                 value: 0,
             }),
             requests: Queue::new(Open::Acknowledgment),
-            load: Load::Idle,
+            load: Reading::Idle,
         }
     }
 
@@ -76,7 +52,7 @@ impl Lsu {
         ensures { self.new ≡ lsu_ask self.old address }
     {
         self.requests.push(Open::Load);
-        self.load = Load::Waiting { address };
+        self.load = Reading::Waiting { address };
     }
 
     fn drains(&self) -> bool

@@ -2,6 +2,7 @@
 use isa::execute::Stop;
 use isa::reg::Reg;
 use isa::regs::Regs;
+use pins::held::{Reading, Store};
 use pins::ports::{Done, Request};
 use rings::queue::Queue;
 use rings::ring::Ring;
@@ -14,13 +15,6 @@ pub struct Fetch {
     pub coming: u32,
     pub stale: u32,
     pub next: u32,
-}
-
-// A store that is done and waits to be requested.
-#[derive(Clone, Copy)]
-pub struct Store {
-    pub address: u32,
-    pub value: u32,
 }
 
 // The store buffer: a ring of eight, the oldest at `begin`.
@@ -36,20 +30,13 @@ pub enum Open {
 // The open requests, oldest first.
 pub type OpenRequests = Queue<Open, 4>;
 
-// The load at work: not requested; requested; answered.
-#[derive(Clone, Copy)]
-pub enum Load {
-    Idle,
-    Waiting { address: u32 },
-    Answered { address: u32, value: u32 },
-}
-
 // The load-store unit.
 #[derive(Clone, Copy)]
 pub struct Lsu {
     pub stores: StoreBuffer,
     pub requests: OpenRequests,
-    pub load: Load,
+    // The load at work.
+    pub load: Reading,
 }
 
 // The number of the instruction at work: how many were done before it, modulo 2^32.

@@ -3,10 +3,11 @@ ghost use Rattle.std.specs.Prelude.{◌≡◌, ℕ, ◌+◌, ◌<◌, ◌≤◌,
 ghost use Rattle.first.specs.Layout.{word, stop_of, regs_of, fetch_of, load_of, open_of, requests_of, store_of, stores_of, core_of, decode, stop_tag, fetch_words, load_words, open_tag, requests_words, stores_words, core_words, Shaped};
 ghost use Rattle.first.specs.Back.{stop_back, regs_back, fetch_back, load_back, requests_back, stores_back};
 
-use crate::state::{Core, Fetch, Load, Lsu, Number, Open, OpenRequests, Store, StoreBuffer};
+use crate::state::{Core, Fetch, Lsu, Number, Open, OpenRequests, StoreBuffer};
 use isa::execute::Stop;
 use isa::regs::Regs;
 use pins::CORE_WORDS;
+use pins::held::{Reading, Store};
 use rings::queue::Queue;
 use rings::ring::Ring;
 use std::array;
@@ -90,7 +91,7 @@ impl InWords<6> for Fetch {
     }
 }
 
-impl InWords<3> for Load {
+impl InWords<3> for Reading {
     ghost of = { load_of };
 
     ghost words_of = { load_words };
@@ -99,11 +100,11 @@ impl InWords<3> for Load {
 
     ghost back = { load_back };
 
-    fn load(w: &[u32]) -> Load {
+    fn load(w: &[u32]) -> Reading {
         match w[0] {
-            0 => Load::Idle,
-            1 => Load::Waiting { address: w[1] },
-            _ => Load::Answered {
+            0 => Reading::Idle,
+            1 => Reading::Waiting { address: w[1] },
+            _ => Reading::Answered {
                 address: w[1],
                 value: w[2],
             },
@@ -112,9 +113,9 @@ impl InWords<3> for Load {
 
     fn words(&self) -> [u32; 3] {
         match *self {
-            Load::Idle => [0, 0, 0],
-            Load::Waiting { address } => [1, address, 0],
-            Load::Answered { address, value } => [2, address, value],
+            Reading::Idle => [0, 0, 0],
+            Reading::Waiting { address } => [1, address, 0],
+            Reading::Answered { address, value } => [2, address, value],
         }
     }
 }
@@ -236,7 +237,7 @@ impl Core {
         let lsu = Lsu {
             stores: StoreBuffer::load(&w[18..36]),
             requests: OpenRequests::load(&w[13..18]),
-            load: Load::load(&w[10..13]),
+            load: Reading::load(&w[10..13]),
         };
         Core {
             regs: Regs::load(&w[36..68]),

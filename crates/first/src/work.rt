@@ -6,12 +6,13 @@ ghost use Rattle.isa.specs.Words.{add};
 ghost use Rattle.first.specs.Step.{next, outputs};
 ghost use Rattle.first.specs.StoreRules.{forwarded};
 
-use crate::state::{Action, Core, Effect, Fetch, Load, Lsu, Number, Store};
+use crate::state::{Action, Core, Effect, Fetch, Lsu, Number};
 use crate::stores::forward;
 use isa::devices::DEVICES;
 use isa::execute::{Outcome, perform};
 use isa::reg::Reg;
 use isa::regs::Regs;
+use pins::held::{Reading, Store};
 use pins::ports::{Done, Inputs, Outputs, Request, Retired};
 
 impl Action {
@@ -76,15 +77,15 @@ impl Core {
         ensures { result ≡ load_action self.now rd address self.now.lsu.load }
     {
         match self.lsu.load {
-            Load::Idle => {
+            Reading::Idle => {
                 if address >= DEVICES {
                     self.ask_device(address)
                 } else {
                     self.ask_data(rd, address)
                 }
             }
-            Load::Waiting { .. } => Action::Wait,
-            Load::Answered { value, .. } => self.loaded(rd, value),
+            Reading::Waiting { .. } => Action::Wait,
+            Reading::Answered { value, .. } => self.loaded(rd, value),
         }
     }
 
@@ -145,7 +146,7 @@ impl Core {
         self.fetch.goto(self.pc, next);
         self.pc = next;
         self.number = Number(self.number.0.wrapping_add(1));
-        self.lsu.load = Load::Idle;
+        self.lsu.load = Reading::Idle;
     }
 
     // Does what was decided.

@@ -2,6 +2,7 @@
 pub mod Ports
 pub mod Outside
 pub mod PortWords
+pub mod Held
 pub mod Says
 pub mod Cases
 pub mod History

@@ -1,6 +1,7 @@
 // The core's ports: what the two public calls answer, and the words of one clock.
 #![tactic(auto)]
 
+pub mod held;
 pub mod laws;
 pub mod ports;
 

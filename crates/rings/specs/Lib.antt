@@ -2,3 +2,4 @@
 pub mod RingRules
 pub mod QueueRules
 pub mod Places
+pub mod Searches

@@ -4,3 +4,4 @@
 pub mod places;
 pub mod queue;
 pub mod ring;
+pub mod search;

@@ -1,6 +1,7 @@
 // What the wires carry in one clock.
 use crate::wires::Signal;
-use first::state::{Core, Load};
+use first::state::Core;
+use pins::held::Reading;
 use pins::ports::{Done, Inputs, Outputs, Request, Retired};
 use std::array;
 
@@ -94,9 +95,9 @@ fn done(done: &Done) -> [Option<Retired>; 4] {
 fn inside(core: &Core) -> [Signal; 11] {
     let word = core.fetch.head();
     let (waiting, answered, address) = match core.lsu.load {
-        Load::Idle => (false, false, None),
-        Load::Waiting { address } => (true, false, Some(address)),
-        Load::Answered { address, .. } => (false, true, Some(address)),
+        Reading::Idle => (false, false, None),
+        Reading::Waiting { address } => (true, false, Some(address)),
+        Reading::Answered { address, .. } => (false, true, Some(address)),
     };
     [
         Signal::word("pc", Some(core.pc)),

@@ -16,9 +16,9 @@ use Rattle.pins.specs.Reach.{Invariant}
 use Rattle.pins.proofs.Settling.{settled_laws}
 use Rattle.pins.proofs.ManualBeside.{beside_laws}
 use Rattle.pins.proofs.Invariants.{invariant_laws}
-use Rattle.window.specs.declared.entry.Store.{Store}
-use Rattle.window.specs.declared.entry.DeviceRead.{DeviceRead}
-use Rattle.window.specs.declared.entry.DeviceRead.TheVariants.{Idle, Waiting, Answered}
+use Rattle.pins.specs.declared.held.Store.{Store}
+use Rattle.pins.specs.declared.held.Reading.{Reading}
+use Rattle.pins.specs.declared.held.Reading.TheVariants.{Idle, Waiting, Answered}
 use Rattle.window.specs.Operands.{plan}
 use Rattle.window.specs.Machine.{Core, begun, halted}
 use Rattle.window.specs.Clocks.{Schedule, machine}
@@ -69,13 +69,13 @@ module _ (c : Code) (m : Mem) (a : ℕ) (k : Core) (v : View) (h : InvWhole c m 
       ∙ ap (λ y. pick y (asked s d.number b s.answers) (wrote s d.number (s.mem (b / 4)) (after1 s))) dv
       ∙ ap (asked s d.number b) e
 
-  asked_now : (q : DeviceRead) → k.device ≡ q → Asked c m a v.told v.rets v.evs
+  asked_now : (q : Reading) → k.device ≡ q → Asked c m a v.told v.rets v.evs
   asked_now q e = by q e (subst (OldestReads c at_base) e h.inv.oldest) (begins q (h.inv.runs.did ∙ ap (λ z. (run_at c m a v).evs ++ reading z) e))
     where
-      begins : (q : DeviceRead) → v.evs ++ store_evs k.stores ≡ (run_at c m a v).evs ++ reading q → Begins v.evs ((run_at c m a v).evs ++ reading q)
+      begins : (q : Reading) → v.evs ++ store_evs k.stores ≡ (run_at c m a v).evs ++ reading q → Begins v.evs ((run_at c m a v).evs ++ reading q)
       begins q e = record { rest = store_evs k.stores; is = sym e }
 
-      by : (q : DeviceRead) → k.device ≡ q → OldestReads c at_base q → Begins v.evs ((run_at c m a v).evs ++ reading q) → Asked c m a v.told v.rets v.evs
+      by : (q : Reading) → k.device ≡ q → OldestReads c at_base q → Begins v.evs ((run_at c m a v).evs ++ reading q) → Asked c m a v.told v.rets v.evs
       by Idle e o b = beside_laws.asked_done beside (rw append-nil at b)
       by (Waiting b) e (d, p, dv) g = beside_laws.asked_next (0 ∷ []) beside (reads_device (0 ∷ []) 0 [] d (ap (λ z. unread z ++ (0 ∷ [])) e) p dv) g
       by (Answered b x) e (d, p, dv) g = beside_laws.asked_next [] beside (reads_device [] x [] d (ap (λ z. unread z ++ []) e) p dv) g

@@ -13,8 +13,8 @@ use Rattle.window.specs.declared.entry.Entry.{Entry}
 use Rattle.window.specs.declared.entry.Number.{Number}
 use Rattle.window.specs.declared.entry.Tag.{Tag}
 use Rattle.window.specs.declared.entry.Tag.TheVariants.{Acknowledgment, Load, Stale, Device}
-use Rattle.window.specs.declared.entry.DeviceRead.{DeviceRead}
-use Rattle.window.specs.declared.entry.DeviceRead.TheVariants.{Idle, Waiting, Answered}
+use Rattle.pins.specs.declared.held.Reading.{Reading}
+use Rattle.pins.specs.declared.held.Reading.TheVariants.{Idle, Waiting, Answered}
 use Rattle.window.specs.Entries.{fresh}
 use Rattle.window.specs.Machine.{Core, with_requests, with_fetches, learn, device_answered, get_data, take_data, get_code, take_code, tip, next_pc, fetch}
 use Rattle.window.specs.Clocks.{answer_code, answer_data}
@@ -59,7 +59,7 @@ module _ (c : Code) (m : Mem) (a : ℕ) where
 
   -- a device's answer: the state with it is one of those that were spoken of already
   device_got : (k : Core) (v : Seen) (x : ℕ) (ts : List Tag) (ds : List Due) → k.requests ≡ Device ∷ ts → Inv c m a k v
-      → Each (Request (LoadsIn k v)) ts ds → (q : DeviceRead) → k.device ≡ q
+      → Each (Request (LoadsIn k v)) ts ds → (q : Reading) → k.device ≡ q
       → Inv c m a
       (record { regs = k.regs; pc = k.pc; stores = k.stores; device = device_answered x q; window = k.window; requests = ts; fetches = k.fetches })
       (record { codes = v.codes; dues = ds; mem = v.mem; told = v.told ++ (x ∷ []); rets = v.rets; evs = v.evs })

@@ -10,9 +10,9 @@ use Rattle.pins.specs.Ports.{reads}
 use Rattle.window.specs.declared.entry.Entry.{Entry}
 use Rattle.window.specs.declared.entry.Tag.{Tag}
 use Rattle.window.specs.declared.entry.Tag.TheVariants.{Acknowledgment, Load, Stale, Device}
-use Rattle.window.specs.declared.entry.Store.{Store}
-use Rattle.window.specs.declared.entry.DeviceRead.{DeviceRead}
-use Rattle.window.specs.declared.entry.DeviceRead.TheVariants.{Idle, Waiting, Answered}
+use Rattle.pins.specs.declared.held.Store.{Store}
+use Rattle.pins.specs.declared.held.Reading.{Reading}
+use Rattle.pins.specs.declared.held.Reading.TheVariants.{Idle, Waiting, Answered}
 use Rattle.window.specs.declared.entry.Source.{Source}
 use Rattle.window.specs.declared.entry.Source.TheVariants.{Unknown, Memory, Forwarded}
 use Rattle.window.specs.Entries.{number}
@@ -96,7 +96,7 @@ module _ (c : Code) (m : Mem) (a : ℕ) (k : Core) (v : Seen) (h : Inv c m a k v
   drain_kept = drain_by k.stores refl
 
   -- a device is read for the oldest, with nothing waiting
-  device_by : (d : Reg) (b : ℕ) → plan c (base k v.mem) ≡ Loads d b → (x : Bool) → device b ≡ x → (q : DeviceRead) → k.device ≡ q
+  device_by : (d : Reg) (b : ℕ) → plan c (base k v.mem) ≡ Loads d b → (x : Bool) → device b ≡ x → (q : Reading) → k.device ≡ q
       → (ps : List Store) → k.stores ≡ ps → AskedKept (device_if k b x q ps)
   device_by d b pl false dv q eq ps es = h
   device_by d b pl true dv (Waiting x) eq ps es = h

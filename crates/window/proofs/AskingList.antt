@@ -10,10 +10,10 @@ use Rattle.isa.specs.declared.execute.Outcome.TheVariants.{Write as Writes, Jump
 use Rattle.isa.specs.declared.execute.Stop.{Stop}
 use Rattle.pins.specs.PortWords.{optional, plain, stop_word, request_of}
 use Rattle.window.specs.declared.entry.Entry.{Entry}
-use Rattle.window.specs.declared.entry.Store.{Store}
+use Rattle.pins.specs.declared.held.Store.{Store}
 use Rattle.window.specs.declared.entry.Tag.TheVariants.{Load, Device}
-use Rattle.window.specs.declared.entry.DeviceRead.{DeviceRead}
-use Rattle.window.specs.declared.entry.DeviceRead.TheVariants.{Idle, Waiting, Answered}
+use Rattle.pins.specs.declared.held.Reading.{Reading}
+use Rattle.pins.specs.declared.held.Reading.TheVariants.{Idle, Waiting, Answered}
 use Rattle.window.specs.declared.entry.Source.{Source}
 use Rattle.window.specs.declared.entry.Source.TheVariants.{Unknown, Memory, Forwarded}
 use Rattle.window.specs.declared.datapath.Datapath.{Datapath}
@@ -101,7 +101,7 @@ module _ (k : Datapath) (s : SizedDatapath k) (room : k.requests.count < 4) wher
   device_idle b true e (p ∷ ps) l = let z = eqb-true k.stores.count 0 e in absurd (omega arith)
   device_idle b false e [] l = absurd (eqb-false k.stores.count 0 e (sym l))
 
-  device_from : (b : ℕ) (t : Bool) (q : DeviceRead)
+  device_from : (b : ℕ) (t : Bool) (q : Reading)
       → Asks (pick (t && free_at q k.stores.count) (Some b) None) (device_then (pick (t && free_at q k.stores.count) (Some b) None)) (device_if (lists k) b t q (waiting k.stores))
   device_from b false q = record { core = refl; req = refl }
   device_from b true (Waiting x) = record { core = refl; req = refl }
@@ -139,7 +139,7 @@ halts_is k = ap (λ o. plain (stop_word (given o None (λ e. given e.outcome Non
     idle h true e (p ∷ ps) l = let z = eqb-true k.stores.count 0 e in absurd (omega arith)
     idle h false e [] l = absurd (eqb-false k.stores.count 0 e (sym l))
 
-    busy : (h : Stop) (q : DeviceRead) (ps : List Store) → length ps ≡ k.stores.count → plain (stop_word (pick (free_at q k.stores.count) (Some h) None)) ≡ halts_if ps q (how h)
+    busy : (h : Stop) (q : Reading) (ps : List Store) → length ps ≡ k.stores.count → plain (stop_word (pick (free_at q k.stores.count) (Some h) None)) ≡ halts_if ps q (how h)
     busy h Idle ps l = idle h (eqb k.stores.count 0) refl ps l
     busy h (Waiting b) [] l = refl
     busy h (Waiting b) (p ∷ ps) l = refl

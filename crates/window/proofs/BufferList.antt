@@ -1,6 +1,6 @@
 -- The store buffer's methods are the machine's rules on the list of waiting stores.
 use Rattle.std.proofs.Common.{◌≡◌, ℕ, zero, suc, ◌+◌, ◌/◌, ◌%◌, cond, ◌&&◌, eqb, ltb, List, [], ◌∷◌, ◌++◌, get_or, sym, refl, ap, ◌∙◌, arith}
-use Rattle.window.specs.declared.entry.Store.{Store}
+use Rattle.pins.specs.declared.held.Store.{Store}
 use Rattle.window.specs.declared.entry.Source.{Source}
 use Rattle.window.specs.declared.entry.Source.TheVariants.{Memory, Forwarded}
 use Rattle.window.specs.Newest.{by_store, row_source}

@@ -17,8 +17,8 @@ use Rattle.pins.proofs.Waiting.{wait_laws}
 use Rattle.pins.proofs.Invariants.{invariant_laws}
 use Rattle.window.specs.declared.entry.Entry.{Entry}
 use Rattle.window.specs.declared.entry.Number.{Number}
-use Rattle.window.specs.declared.entry.Store.{Store}
-use Rattle.window.specs.declared.entry.DeviceRead.TheVariants.{Idle}
+use Rattle.pins.specs.declared.held.Store.{Store}
+use Rattle.pins.specs.declared.held.Reading.TheVariants.{Idle}
 use Rattle.window.specs.Entries.{given, number, fresh}
 use Rattle.window.specs.Machine.{Core, learn, read_left, read_right, execute, forward, Retired, leave, next_pc, halts_if, halts_outcome, halts_oldest, halted}
 use Rattle.window.specs.Clocks.{Move, rest, reads_left, reads_right, executes, forwards, redirects, retires, move, room, request_if, fetch_if, fetch_room, Schedule, State, run_rules, heard, ruled, chosen_port, posted, chosen_fetch, next, shown, machine}

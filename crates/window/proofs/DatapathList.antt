@@ -10,7 +10,7 @@ use Rattle.window.specs.declared.entry.Entry.{Entry}
 use Rattle.window.specs.declared.entry.Number.{Number}
 use Rattle.window.specs.declared.entry.Tag.{Tag}
 use Rattle.window.specs.declared.entry.Tag.TheVariants.{Acknowledgment, Load, Stale, Device}
-use Rattle.window.specs.declared.entry.DeviceRead.TheVariants.{Idle}
+use Rattle.pins.specs.declared.held.Reading.TheVariants.{Idle}
 use Rattle.window.specs.declared.datapath.Datapath.{Datapath}
 use Rattle.window.specs.Entries.{given, number, fresh, with_predicted, with_word, with_left, with_right, with_loaded}
 use Rattle.window.specs.Operands.{left_register, right_register}

@@ -19,9 +19,9 @@ use Rattle.window.specs.declared.entry.Entry.{Entry}
 use Rattle.window.specs.declared.entry.Number.{Number}
 use Rattle.window.specs.declared.entry.Tag.{Tag}
 use Rattle.window.specs.declared.entry.Tag.TheVariants.{Acknowledgment, Load, Stale, Device}
-use Rattle.window.specs.declared.entry.Store.{Store}
-use Rattle.window.specs.declared.entry.DeviceRead.{DeviceRead}
-use Rattle.window.specs.declared.entry.DeviceRead.TheVariants.{Idle, Waiting, Answered}
+use Rattle.pins.specs.declared.held.Store.{Store}
+use Rattle.pins.specs.declared.held.Reading.{Reading}
+use Rattle.pins.specs.declared.held.Reading.TheVariants.{Idle, Waiting, Answered}
 use Rattle.window.specs.declared.entry.Source.TheVariants.{Memory}
 use Rattle.window.specs.Entries.{number, fresh}
 use Rattle.window.specs.Newest.{source}
@@ -274,7 +274,7 @@ module _ {T : Type 0} (s : Schedule T) (f : Fair s) {l : ℕ} (x : Clock (machin
               shut None dl = rw none_open (or_asked (asks dl an sv))
 
       -- a reading of a device
-      abbrev FallsTo : DeviceRead → Type 0
+      abbrev FallsTo : Reading → Type 0
       FallsTo q =
           device_rank l (f.late z') E1 (k4 s x).device (device_age (k4 s x) (new s x)) < device_rank l (f.late z) E0 q (device_age (k0 s x) (old s x))
 
@@ -295,7 +295,7 @@ module _ {T : Type 0} (s : Schedule T) (f : Fair s) {l : ℕ} (x : Clock (machin
           stays_answered a y h = (also4 s x).device ∙ (left3 s x).answered a y (device2 ∙ h)
 
           -- it was answered in this clock, or not
-          answered_or : (q' : DeviceRead) → (k1 s x).device ≡ q' → ((a : ℕ) × (y : ℕ) × ((k4 s x).device ≡ Answered a y)) ⊎ (is_answered (k1 s x).device ≡ false)
+          answered_or : (q' : Reading) → (k1 s x).device ≡ q' → ((a : ℕ) × (y : ℕ) × ((k4 s x).device ≡ Answered a y)) ⊎ (is_answered (k1 s x).device ≡ false)
           answered_or Idle h = inr (ap is_answered h)
           answered_or (Waiting a) h = inr (ap is_answered h)
           answered_or (Answered a y) h = inl (a, y, stays_answered a y h)
@@ -313,7 +313,7 @@ module _ {T : Type 0} (s : Schedule T) (f : Fair s) {l : ℕ} (x : Clock (machin
               same : is_answered (k1 s x).device ≡ false → (k1 s x).device ≡ Answered a y
               same n = ((took1 s x).device n).same ∙ h
 
-              by1 : (q' : DeviceRead) → (k1 s x).device ≡ q' → device_rank l (f.late z') E1 (k4 s x).device (device_age (k4 s x) (new s x)) < f.late z
+              by1 : (q' : Reading) → (k1 s x).device ≡ q' → device_rank l (f.late z') E1 (k4 s x).device (device_age (k4 s x) (new s x)) < f.late z
               by1 Idle n = clash {b = is_answered (k1 s x).device} (ap is_answered (same (ap is_answered n))) (ap is_answered n)
               by1 (Waiting c) n = clash {b = is_answered (k1 s x).device} (ap is_answered (same (ap is_answered n))) (ap is_answered n)
               by1 (Answered c w) n = rw (stays_answered c w n) less
@@ -349,12 +349,12 @@ module _ {T : Type 0} (s : Schedule T) (f : Fair s) {l : ℕ} (x : Clock (machin
               let u = late0 in
               rw (d4, now) (omega arith)
 
-          by : (q0 : DeviceRead) → (k0 s x).device ≡ q0 → device_rank l (f.late z') E1 (k4 s x).device (device_age (k4 s x) (new s x)) < device_rank l (f.late z) E0 q0 (device_age (k0 s x) (old s x))
+          by : (q0 : Reading) → (k0 s x).device ≡ q0 → device_rank l (f.late z') E1 (k4 s x).device (device_age (k4 s x) (new s x)) < device_rank l (f.late z) E0 q0 (device_age (k0 s x) (old s x))
           by (Answered a y) h = is_there a y h
           by (Waiting a) h = waits a h (answered_or (k1 s x).device refl)
           by Idle h = at (k1 s x).device refl
             where
-              at : (q' : DeviceRead) → (k1 s x).device ≡ q' → FallsTo Idle
+              at : (q' : Reading) → (k1 s x).device ≡ q' → FallsTo Idle
               at Idle n = idle h (device2 ∙ n) sv (k2 s x).stores refl (room (k2 s x)) refl
               at (Waiting c) n = let m : Waiting c ≡ Idle = sym n ∙ ((took1 s x).device (ap is_answered n)).same ∙ h in absurd (let y : ◌≡◌ {A = ℕ} 0 1 = cc in omega arith)
               at (Answered c y) n = let m = stays_answered c y n in let u = le in let v = late0 in rw m (omega arith)

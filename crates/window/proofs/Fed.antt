@@ -9,7 +9,7 @@ use Rattle.window.specs.declared.entry.Entry.{Entry}
 use Rattle.window.specs.declared.entry.Number.{Number}
 use Rattle.window.specs.declared.entry.Tag.{Tag}
 use Rattle.window.specs.declared.entry.Tag.TheVariants.{Acknowledgment, Load, Stale, Device}
-use Rattle.window.specs.declared.entry.Store.{Store}
+use Rattle.pins.specs.declared.held.Store.{Store}
 use Rattle.window.specs.Entries.{fresh, with_word, with_predicted}
 use Rattle.window.specs.Machine.{Core, with_requests, with_fetches, learn, read_left, read_right, execute, forward, kept, renumbers, redirect, Retired, leave, Asked, take_data, get_data, take_code, get_code, next_pc}
 use Rattle.window.specs.Clocks.{Move, rest, reads_left, reads_right, executes, forwards, redirects, retires, move, Port, room, request_if, fetch_if, fetch_room, answer_code, answer_data, Schedule, State, run_rules, heard, ruled, chosen_port, posted, chosen_fetch, next}

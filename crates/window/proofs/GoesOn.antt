@@ -13,7 +13,7 @@ use Rattle.pins.specs.Progress as progress
 use Rattle.pins.proofs.Waiting.{wait_laws}
 use Rattle.pins.proofs.Progressing.{progress_laws}
 use Rattle.window.specs.declared.entry.Entry.{Entry}
-use Rattle.window.specs.declared.entry.Store.{Store}
+use Rattle.pins.specs.declared.held.Store.{Store}
 use Rattle.window.specs.Entries.{given}
 use Rattle.window.specs.Machine.{Core, none_retired, retire_outcome, retire_oldest, halts_if, halts_outcome, halts_oldest, halted}
 use Rattle.window.specs.Clocks.{Move, rest, reads_left, reads_right, executes, forwards, redirects, retires, move, Schedule, State, run_rules, machine}

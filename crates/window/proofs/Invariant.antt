@@ -13,8 +13,8 @@ use Rattle.pins.specs.Settled.{Due, due, dues, flushed, mem_with, tells}
 use Rattle.pins.proofs.Settling.{settled_laws}
 use Rattle.window.specs.declared.entry.Tag.{Tag}
 use Rattle.window.specs.declared.entry.Tag.TheVariants.{Acknowledgment, Load, Stale, Device}
-use Rattle.window.specs.declared.entry.DeviceRead.{DeviceRead}
-use Rattle.window.specs.declared.entry.DeviceRead.TheVariants.{Idle, Waiting, Answered}
+use Rattle.pins.specs.declared.held.Reading.{Reading}
+use Rattle.pins.specs.declared.held.Reading.TheVariants.{Idle, Waiting, Answered}
 use Rattle.window.specs.Operands.{plan}
 use Rattle.window.specs.Machine.{Core}
 use Rattle.window.proofs.SourceRight.{with_stores, store_evs}
@@ -78,17 +78,17 @@ seen_request r v = λ i. record {
 }
 
 -- a device's word that came for the oldest, and is not yet the manual's past; the reading of it
-abbrev pub unread : DeviceRead → List ℕ
+abbrev pub unread : Reading → List ℕ
 unread Idle = []
 unread (Waiting a) = []
 unread (Answered a x) = x ∷ []
 
-abbrev pub reading : DeviceRead → List Ev
+abbrev pub reading : Reading → List Ev
 reading Idle = []
 reading (Waiting a) = asks a ∷ []
 reading (Answered a x) = asks a ∷ []
 
-abbrev pub readings : DeviceRead → ℕ
+abbrev pub readings : Reading → ℕ
 readings Idle = 0
 readings (Waiting a) = 1
 readings (Answered a x) = 0
@@ -101,7 +101,7 @@ device_tags (Stale ∷ ts) = device_tags ts
 device_tags (Device ∷ ts) = suc (device_tags ts)
 
 -- a device is read for the oldest alone
-abbrev pub OldestReads : Code → S → DeviceRead → Type 0
+abbrev pub OldestReads : Code → S → Reading → Type 0
 OldestReads c s Idle = Unit {0}
 OldestReads c s (Waiting a) = (d : Reg) × (plan c s ≡ Loads d a) × (device a ≡ true)
 OldestReads c s (Answered a x) = (d : Reg) × (plan c s ≡ Loads d a) × (device a ≡ true)

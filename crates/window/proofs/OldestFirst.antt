@@ -7,9 +7,9 @@ use Rattle.isa.specs.declared.execute.Outcome.{Outcome}
 use Rattle.isa.specs.declared.execute.Outcome.TheVariants.{Write as Writes, Jump as Jumps, Load as Loads, Store as Stores, Halt as Halts}
 use Rattle.pins.specs.Ports.{In}
 use Rattle.window.specs.declared.entry.Entry.{Entry}
-use Rattle.window.specs.declared.entry.Store.{Store}
-use Rattle.window.specs.declared.entry.DeviceRead.{DeviceRead}
-use Rattle.window.specs.declared.entry.DeviceRead.TheVariants.{Idle, Waiting, Answered}
+use Rattle.pins.specs.declared.held.Store.{Store}
+use Rattle.pins.specs.declared.held.Reading.{Reading}
+use Rattle.pins.specs.declared.held.Reading.TheVariants.{Idle, Waiting, Answered}
 use Rattle.window.specs.declared.entry.Source.TheVariants.{Memory}
 use Rattle.window.specs.Entries.{given}
 use Rattle.window.specs.Newest.{row_source}
@@ -31,7 +31,7 @@ stores_go : (ps : List Store) (y : Port) → 0 < length ps → stores_first ps y
 stores_go [] y h = absurd (omega arith)
 stores_go (p ∷ ps) y h = refl
 
-device_stores : (q : DeviceRead) (ps : List Store) (y : Port) → 0 < length ps → device_port q ps y ≡ drains
+device_stores : (q : Reading) (ps : List Store) (y : Port) → 0 < length ps → device_port q ps y ≡ drains
 device_stores Idle [] y h = absurd (omega arith)
 device_stores Idle (p ∷ ps) y h = refl
 device_stores (Waiting b) ps y h = stores_go ps y h

@@ -8,9 +8,9 @@ use Rattle.isa.specs.declared.execute.Outcome.{Outcome}
 use Rattle.isa.specs.declared.execute.Outcome.TheVariants.{Write as Writes, Jump as Jumps, Load as Loads, Store as Stores, Halt as Halts}
 use Rattle.pins.specs.Ports.{In}
 use Rattle.window.specs.declared.entry.Entry.{Entry}
-use Rattle.window.specs.declared.entry.Store.{Store}
-use Rattle.window.specs.declared.entry.DeviceRead.{DeviceRead}
-use Rattle.window.specs.declared.entry.DeviceRead.TheVariants.{Idle, Waiting, Answered}
+use Rattle.pins.specs.declared.held.Store.{Store}
+use Rattle.pins.specs.declared.held.Reading.{Reading}
+use Rattle.pins.specs.declared.held.Reading.TheVariants.{Idle, Waiting, Answered}
 use Rattle.window.specs.declared.entry.Source.{Source}
 use Rattle.window.specs.declared.entry.Source.TheVariants.{Unknown, Memory, Forwarded}
 use Rattle.window.specs.Entries.{given, with_left, with_right, with_outcome, with_loaded}
@@ -199,7 +199,7 @@ no_rets h = let z : ◌≡◌ {A = ℕ} 0 1 = cc in omega arith
 pub not_ready : (k : Core) (e : Entry) (es : List Entry) (o : Outcome) → k.window ≡ e ∷ es → e.outcome ≡ Some o → (retire k).rets ≡ [] → ready k e o ≡ false
 not_ready k e es o we eo h = by o (subst (λ (o : Option Outcome). (given o (none_retired k) (retire_outcome k e es)).rets ≡ []) eo (subst (λ (w : List Entry). (retire_oldest k w).rets ≡ []) we h))
   where
-    device_by : (d : ℕ) (q : DeviceRead) → (retire_device k e es d q).rets ≡ [] → is_answered q ≡ false
+    device_by : (d : ℕ) (q : Reading) → (retire_device k e es d q).rets ≡ [] → is_answered q ≡ false
     device_by d Idle h = refl
     device_by d (Waiting b) h = refl
     device_by d (Answered b x) h = absurd (no_rets h)
@@ -240,7 +240,7 @@ not_ready_before i k e d m (Loads r b) h = both (has e.loaded) refl k.device ref
     same : (answered i k).device ≡ k.device
     same = ((took i k).device unanswered).same
 
-    both : (a : Bool) → has e.loaded ≡ a → (q : DeviceRead) → k.device ≡ q → a || is_answered q ≡ false
+    both : (a : Bool) → has e.loaded ≡ a → (q : Reading) → k.device ≡ q → a || is_answered q ≡ false
     both true ea q eq = clash (m.loaded ea) (or_left (has d.loaded) (is_answered (answered i k).device) h)
     both false ea q eq = ap is_answered (sym (same ∙ eq)) ∙ unanswered
 not_ready_before i k e d m (Stores b x) h = ap (λ (ps : List Store). ltb (length ps) 8) (sym (took i k).stores) ∙ h

@@ -8,8 +8,8 @@ use Rattle.isa.specs.declared.execute.Outcome.TheVariants.{Write as Writes, Jump
 use Rattle.pins.specs.Outside.{O}
 use Rattle.pins.specs.Waits.{ages, ages1}
 use Rattle.window.specs.declared.entry.Entry.{Entry}
-use Rattle.window.specs.declared.entry.DeviceRead.{DeviceRead}
-use Rattle.window.specs.declared.entry.DeviceRead.TheVariants.{Idle, Waiting, Answered}
+use Rattle.pins.specs.declared.held.Reading.{Reading}
+use Rattle.pins.specs.declared.held.Reading.TheVariants.{Idle, Waiting, Answered}
 use Rattle.window.specs.Machine.{Core}
 use Rattle.window.specs.Fairness.{is_load}
 use Rattle.window.proofs.Marks.{is_device, is_fetch, spot}
@@ -32,12 +32,12 @@ module _ (l d E : ℕ) where
   load_rank None none = (l + 2) + E
   load_rank None (some a) = (1 + (l - a)) + d
 
-  abbrev pub device_rank : DeviceRead → Opt ℕ → ℕ
+  abbrev pub device_rank : Reading → Opt ℕ → ℕ
   device_rank Idle x = (l + 2) + E
   device_rank (Waiting b) x = (1 + wait l x) + d
   device_rank (Answered b y) x = d
 
-  abbrev pub outcome_rank : Option ℕ → DeviceRead → Opt ℕ → Opt ℕ → Outcome → ℕ
+  abbrev pub outcome_rank : Option ℕ → Reading → Opt ℕ → Opt ℕ → Outcome → ℕ
   outcome_rank g q x y (Writes r v b) = d
   outcome_rank g q x y (Jumps b) = d
   outcome_rank g q x y (Loads r b) = pick (device b) (device_rank q y) (load_rank g x)
@@ -50,12 +50,12 @@ module _ (l d E : ℕ) where
     load_most None none = omega arith
     load_most None (some a) = omega arith
 
-    pub device_most : (q : DeviceRead) (x : Opt ℕ) → device_rank q x ≤ (l + 2) + E
+    pub device_most : (q : Reading) (x : Opt ℕ) → device_rank q x ≤ (l + 2) + E
     device_most Idle x = omega arith
     device_most (Waiting b) x = let w = wait_most l x in omega arith
     device_most (Answered b y) x = omega arith
 
-    pub outcome_most : (g : Option ℕ) (q : DeviceRead) (x y : Opt ℕ) (o : Outcome) → outcome_rank g q x y o ≤ (l + 2) + E
+    pub outcome_most : (g : Option ℕ) (q : Reading) (x y : Opt ℕ) (o : Outcome) → outcome_rank g q x y o ≤ (l + 2) + E
     outcome_most g q x y (Writes r v b) = omega arith
     outcome_most g q x y (Jumps b) = omega arith
     outcome_most g q x y (Loads r b) = by (device b)
@@ -67,12 +67,12 @@ module _ (l d E : ℕ) where
     outcome_most g q x y (Halts s) = omega arith
 
 -- the bands: its outcome is known; its word, and n clocks of working it out; neither; nothing is at work, and V until the code's port is free
-abbrev pub oldest_rank : ℕ → ℕ → ℕ → ℕ → Option Outcome → Option ℕ → Option ℕ → DeviceRead → Opt ℕ → Opt ℕ → Opt ℕ → ℕ
+abbrev pub oldest_rank : ℕ → ℕ → ℕ → ℕ → Option Outcome → Option ℕ → Option ℕ → Reading → Opt ℕ → Opt ℕ → Opt ℕ → ℕ
 oldest_rank l n d E (Some o) w g q x y c = outcome_rank l d E g q x y o
 oldest_rank l n d E None (Some w) g q x y c = (5 * l + 22) + n
 oldest_rank l n d E None None g q x y c = (5 * l + 61) + wait l c
 
-abbrev pub window_rank : ℕ → ℕ → ℕ → ℕ → List Entry → DeviceRead → Opt ℕ → Opt ℕ → Opt ℕ → ℕ → ℕ
+abbrev pub window_rank : ℕ → ℕ → ℕ → ℕ → List Entry → Reading → Opt ℕ → Opt ℕ → Opt ℕ → ℕ → ℕ
 window_rank l n d E [] q x y c V = (6 * l + 62) + V
 window_rank l n d E (e ∷ es) q x y c V = oldest_rank l n d E e.outcome e.word e.loaded q x y c
 
@@ -92,7 +92,7 @@ port_wait l d k o = frees l (length k.stores + d) (ages1 o.datas)
 abbrev pub core_rank : ℕ → ℕ → ℕ → Core → O → ℕ
 core_rank l n d k o = window_rank l n d (port_wait l d k o) k.window k.device (load_age k o) (device_age k o) (code_age k o) (frees l 0 (ages o.codes))
 
-pub window_most : (l n d E : ℕ) (es : List Entry) (q : DeviceRead) (x y c : Opt ℕ) (V : ℕ) → n ≤ 38 → d ≤ E → E ≤ 4 * l + 19 → V ≤ l + 1
+pub window_most : (l n d E : ℕ) (es : List Entry) (q : Reading) (x y c : Opt ℕ) (V : ℕ) → n ≤ 38 → d ≤ E → E ≤ 4 * l + 19 → V ≤ l + 1
     → window_rank l n d E es q x y c V ≤ 63 + 16 * l
 window_most l n d E [] q x y c V hn hd hE hV = omega arith
 window_most l n d E (e ∷ es) q x y c V hn hd hE hV = by e.outcome e.word

@@ -18,9 +18,9 @@ use Rattle.window.specs.declared.entry.Entry.{Entry}
 use Rattle.window.specs.declared.entry.Number.{Number}
 use Rattle.window.specs.declared.entry.Tag.{Tag}
 use Rattle.window.specs.declared.entry.Tag.TheVariants.{Acknowledgment, Load, Stale, Device}
-use Rattle.window.specs.declared.entry.Store.{Store}
-use Rattle.window.specs.declared.entry.DeviceRead.{DeviceRead}
-use Rattle.window.specs.declared.entry.DeviceRead.TheVariants.{Idle, Waiting, Answered}
+use Rattle.pins.specs.declared.held.Store.{Store}
+use Rattle.pins.specs.declared.held.Reading.{Reading}
+use Rattle.pins.specs.declared.held.Reading.TheVariants.{Idle, Waiting, Answered}
 use Rattle.window.specs.Entries.{given, number, with_predicted}
 use Rattle.window.specs.Operands.{plan}
 use Rattle.window.specs.Machine.{Core, popped, kept, retags, renumbers, redirect, Retired, leave, finish, write_ret, plain_ret, retire_write, retire_device, retire_store, retire_outcome, retire_oldest, retire, halts_if, halts_outcome, halts_oldest, halted}
@@ -125,13 +125,13 @@ module _ (c : Code) (m : Mem) (a : ℕ) (k : Core) (v : Seen) (h : Inv c m a k v
         reads : (d : Reg) (b : ℕ) → plan c (base k v.mem) ≡ Loads d b → device b ≡ true → {A : Type 0} → A
         reads d b p dv = clash dv (subst NoDevice (here o eo ∙ p) nd)
 
-        by : (q : DeviceRead) → OldestReads c (base k v.mem) q → q ≡ Idle
+        by : (q : Reading) → OldestReads c (base k v.mem) q → q ≡ Idle
         by Idle w = refl
         by (Waiting b) w = reads w.0 b w.1 w.2
         by (Answered b x) w = reads w.0 b w.1 w.2
 
     -- where it stands after the oldest, if that reads no device
-    abbrev next_at : List ℕ → ℕ → Mem → DeviceRead → S
+    abbrev next_at : List ℕ → ℕ → Mem → Reading → S
     next_at gs b f q = record { regs = gs; pc = b; mem = f; answers = unread q }
 
     plain : (o : Outcome) → e.outcome ≡ Some o → NoDevice o → (gs : List ℕ) (b : ℕ) (ps : List Store) (t : Ret) (fs : List Ev)
@@ -160,7 +160,7 @@ module _ (c : Code) (m : Mem) (a : ℕ) (k : Core) (v : Seen) (h : Inv c m a k v
         (written d.number x) (sym (append-nil _))
 
     -- a device's word that came
-    answered : (d : Reg) (b : ℕ) → e.outcome ≡ Some (Loads d b) → (q : DeviceRead) → k.device ≡ q → RetiredKept (retire_device k e es d.number q)
+    answered : (d : Reg) (b : ℕ) → e.outcome ≡ Some (Loads d b) → (q : Reading) → k.device ≡ q → RetiredKept (retire_device k e es d.number q)
     answered d b eo Idle eq = h
     answered d b eo (Waiting b') eq = h
     answered d b eo (Answered b' x) eq =
@@ -168,9 +168,9 @@ module _ (c : Code) (m : Mem) (a : ℕ) (k : Core) (v : Seen) (h : Inv c m a k v
         let y : Loads d b ≡ Loads o.0 b' = here (Loads d b) eo ∙ o.1 in
         let z : b ≡ b' = cc in
         finish_kept (put k.regs d.number x) (add k.pc 4) k.stores (write_ret k d.number x) (asks b ∷ [])
-        (stepped (Loads d b) eo ∙ load_steps d b true (ap device z ∙ o.2) ∙ ap (λ (w : DeviceRead). asked (base k v.mem) d.number b (unread w)) eq)
+        (stepped (Loads d b) eo ∙ load_steps d b true (ap device z ∙ o.2) ∙ ap (λ (w : Reading). asked (base k v.mem) d.number b (unread w)) eq)
         (written d.number x)
-        (h.runs.did ∙ ap (λ (w : DeviceRead). (run_seen c m a v).evs ++ reading w) eq ∙ ap (λ w. (run_seen c m a v).evs ++ (asks w ∷ [])) (sym z))
+        (h.runs.did ∙ ap (λ (w : Reading). (run_seen c m a v).evs ++ reading w) eq ∙ ap (λ w. (run_seen c m a v).evs ++ (asks w ∷ [])) (sym z))
         (h.one_reading ∙ ap readings eq)
 
     outcome_kept : (o : Outcome) → e.outcome ≡ Some o → RetiredKept (retire_outcome k e es o)
@@ -223,7 +223,7 @@ module _ (c : Code) (m : Mem) (a : ℕ) (k : Core) (v : Seen) (h : Inv c m a k v
   pub halted_right : StopRight (halted k)
   halted_right = by k.window refl
     where
-      with_nothing : (s : Stop) → plan c (base k v.mem) ≡ Halts s → (ps : List Store) → k.stores ≡ ps → (q : DeviceRead) → k.device ≡ q → StopRight (halts_if ps q (how s))
+      with_nothing : (s : Stop) → plan c (base k v.mem) ≡ Halts s → (ps : List Store) → k.stores ≡ ps → (q : Reading) → k.device ≡ q → StopRight (halts_if ps q (how s))
       with_nothing s pl [] es Idle eq = record { low = how_low s; stops = step_plan c (base k v.mem) ∙ ap (enact (base k v.mem)) pl; stores = es; idle = eq }
       with_nothing s pl [] es (Waiting b) eq = tt
       with_nothing s pl [] es (Answered b x) eq = tt

@@ -6,10 +6,10 @@ use Rattle.isa.specs.declared.execute.Outcome.{Outcome}
 use Rattle.isa.specs.declared.execute.Outcome.TheVariants.{Write as Writes, Jump as Jumps, Load as Loads, Store as Stores, Halt as Halts}
 use Rattle.pins.specs.PortWords.{request_of}
 use Rattle.window.specs.declared.entry.Entry.{Entry}
-use Rattle.window.specs.declared.entry.Store.{Store}
+use Rattle.pins.specs.declared.held.Store.{Store}
 use Rattle.window.specs.declared.entry.Tag.TheVariants.{Acknowledgment}
-use Rattle.window.specs.declared.entry.DeviceRead.{DeviceRead}
-use Rattle.window.specs.declared.entry.DeviceRead.TheVariants.{Idle, Waiting, Answered}
+use Rattle.pins.specs.declared.held.Reading.{Reading}
+use Rattle.pins.specs.declared.held.Reading.TheVariants.{Idle, Waiting, Answered}
 use Rattle.window.specs.declared.datapath.Datapath.{Datapath}
 use Rattle.window.specs.Entries.{given}
 use Rattle.window.specs.Machine.{popped, kept, retag, renumber, Retired, none_retired, leave, retire_write, retire_device, retire_store, retire_outcome, retire_oldest, retire, drain_first, drain}
@@ -88,7 +88,7 @@ module _ (k : Datapath) (s : SizedDatapath k) (e : Entry) (es : List Entry) (we 
     sized = moved_sized (with_register k d x) e.predicted b (register_sized d x);
   }
 
-  device_does : (d : ℕ) (q : DeviceRead) → Does k (device_retired k e d q) (rets_of (device_done k d q)) (retire_device (lists k) e es d q)
+  device_does : (d : ℕ) (q : Reading) → Does k (device_retired k e d q) (rets_of (device_done k d q)) (retire_device (lists k) e es d q)
   device_does d Idle = nothing
   device_does d (Waiting b) = nothing
   device_does d (Answered b x) = write_does d x (add k.pc 4)

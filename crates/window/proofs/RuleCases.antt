@@ -8,9 +8,9 @@ use Rattle.isa.specs.declared.execute.Outcome.TheVariants.{Write as Writes, Jump
 use Rattle.pins.specs.Ports.{reads, writes1}
 use Rattle.window.specs.declared.entry.Entry.{Entry}
 use Rattle.window.specs.declared.entry.Tag.TheVariants.{Acknowledgment, Load, Device}
-use Rattle.window.specs.declared.entry.Store.{Store}
-use Rattle.window.specs.declared.entry.DeviceRead.{DeviceRead}
-use Rattle.window.specs.declared.entry.DeviceRead.TheVariants.{Idle, Waiting, Answered}
+use Rattle.pins.specs.declared.held.Store.{Store}
+use Rattle.pins.specs.declared.held.Reading.{Reading}
+use Rattle.pins.specs.declared.held.Reading.TheVariants.{Idle, Waiting, Answered}
 use Rattle.window.specs.declared.entry.Source.{Source}
 use Rattle.window.specs.declared.entry.Source.TheVariants.{Unknown, Memory, Forwarded}
 use Rattle.window.specs.Entries.{number}
@@ -39,7 +39,7 @@ module _ (P : Retired → Type 0) (k : Core) (rests : P (none_retired k))
       same : (e : Entry) (es : List Entry) → k.window ≡ e ∷ es → Finished k e es k.stores
       same e es we = record { window = we; more = omega arith; few = λ h. h }
 
-      device : (e : Entry) (es : List Entry) → k.window ≡ e ∷ es → (d : ℕ) (q : DeviceRead) → P (retire_device k e es d q)
+      device : (e : Entry) (es : List Entry) → k.window ≡ e ∷ es → (d : ℕ) (q : Reading) → P (retire_device k e es d q)
       device e es we d Idle = rests
       device e es we d (Waiting b) = rests
       device e es we d (Answered b x) = finishes e es (put k.regs d x) (add k.pc 4) k.stores (write_ret k d x) (same e es we)
@@ -123,7 +123,7 @@ module _ (P : Asked → Type 0) (k : Core) (nothing : P (nothing_asked k))
       by (p ∷ ps) e = store p ps e
   request_by asks_device = by k.window
     where
-      from : (b : ℕ) (x : Bool) → device b ≡ x → (q : DeviceRead) → k.device ≡ q → (ps : List Store) → k.stores ≡ ps → P (device_if k b x q ps)
+      from : (b : ℕ) (x : Bool) → device b ≡ x → (q : Reading) → k.device ≡ q → (ps : List Store) → k.stores ≡ ps → P (device_if k b x q ps)
       from b false d q e ps f = nothing
       from b true d (Waiting x) e ps f = nothing
       from b true d (Answered x y) e ps f = nothing

@@ -1,26 +1,16 @@
 -- A search from the newest place down.
-use Rattle.std.proofs.Common.{◌≡◌, ℕ, zero, suc, ◌-◌, ◌<◌, List, get_or, slice_get, Bool, true, false, cond, Some, None, Option, is_some, sym, refl, ap, ◌∙◌, sub-one, arith}
+use Rattle.std.proofs.Common.{◌≡◌, ℕ, zero, suc, List, get_or, slice_get, Bool, true, false, cond, Some, None, Option, is_some, sym, refl}
 use Rattle.std.proofs.lemmas.Option.{get_or_from_slice_get}
 use Rattle.window.specs.declared.entry.Source.{Source}
 use Rattle.window.specs.declared.entry.Source.TheVariants.{Memory, Forwarded}
 use Rattle.window.specs.Entries.{given}
+use Rattle.rings.specs.Searches.{newest_below}
 use Rattle.window.specs.Scans.{decides}
-use Rattle.window.specs.Rings.{Window, StoreBuffer, entry, newest_below, store_below, buffer_entry, matches, row_below}
+use Rattle.window.specs.Rings.{Window, StoreBuffer, entry, store_below, buffer_entry, matches, row_below}
 
 -- what was read from a place
 pub read : {A : Type 0} (xs : List A) (i : ℕ) (x d : A) → slice_get xs i ≡ Some x → x ≡ get_or xs i d
 read xs i x d e = sym (get_or_from_slice_get xs i x d e)
-
--- the newest below k, by what the place before k is
-below_step : (f : ℕ → Bool) (k : ℕ) → 0 < k → newest_below f k ≡ cond (f (k - 1)) (Some (k - 1)) (newest_below f (k - 1))
-below_step f zero h = absurd (omega arith)
-below_step f (suc k) h = rw sub-one refl
-
-pub below_on : (f : ℕ → Bool) (k : ℕ) → 0 < k → false ≡ f (k - 1) → newest_below f k ≡ newest_below f (k - 1)
-below_on f k h e = below_step f k h ∙ ap (λ z. cond z (Some (k - 1)) (newest_below f (k - 1))) (sym e)
-
-pub below_here : (f : ℕ → Bool) (k : ℕ) → 0 < k → true ≡ f (k - 1) → newest_below f k ≡ Some (k - 1)
-below_here f k h e = below_step f k h ∙ ap (λ z. cond z (Some (k - 1)) (newest_below f (k - 1))) (sym e)
 
 -- what the newest that decides says, and the newest store's word
 pub store_is : (w : Window) (i n : ℕ) → store_below w i n ≡ given (newest_below (λ k. is_some (decides i (entry w k))) n) None (λ k. decides i (entry w k))

@@ -9,7 +9,7 @@ use Rattle.isa.specs.declared.execute.Outcome.TheVariants.{Write as Writes, Jump
 use Rattle.pins.specs.Ports.{writes1}
 use Rattle.pins.specs.Outside.{mem_by}
 use Rattle.window.specs.declared.entry.Entry.{Entry}
-use Rattle.window.specs.declared.entry.Store.{Store}
+use Rattle.pins.specs.declared.held.Store.{Store}
 use Rattle.window.specs.declared.entry.Source.{Source}
 use Rattle.window.specs.declared.entry.Source.TheVariants.{Unknown, Memory, Forwarded}
 use Rattle.window.specs.Entries.{given}

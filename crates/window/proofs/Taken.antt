@@ -9,8 +9,8 @@ use Rattle.window.specs.declared.entry.Entry.{Entry}
 use Rattle.window.specs.declared.entry.Number.{Number}
 use Rattle.window.specs.declared.entry.Tag.{Tag}
 use Rattle.window.specs.declared.entry.Tag.TheVariants.{Acknowledgment, Load, Stale, Device}
-use Rattle.window.specs.declared.entry.DeviceRead.{DeviceRead}
-use Rattle.window.specs.declared.entry.DeviceRead.TheVariants.{Idle, Waiting, Answered}
+use Rattle.pins.specs.declared.held.Reading.{Reading}
+use Rattle.pins.specs.declared.held.Reading.TheVariants.{Idle, Waiting, Answered}
 use Rattle.window.specs.Entries.{with_word, with_loaded}
 use Rattle.window.specs.Machine.{Core, with_requests, with_fetches, learn, device_answered, get_data, take_data, get_code, take_code}
 use Rattle.window.specs.Clocks.{answer_code, answer_data, answered}
@@ -127,7 +127,7 @@ load_spared (some x) k e es we h = by k.requests h
     by (Device ∷ ts) h = refl
 
 -- the reading of a device
-pub record Unanswered (i : Opt ℕ) (k : Core) (q : DeviceRead) : Type 0 where
+pub record Unanswered (i : Opt ℕ) (k : Core) (q : Reading) : Type 0 where
   pub same : q ≡ k.device
   pub spared : (b : ℕ) → k.device ≡ Waiting b → Spared i (map is_device k.requests)
 
@@ -135,7 +135,7 @@ device_spared : (i : Opt ℕ) (k : Core) → is_answered (answer_data i k).devic
 device_spared none k h = record { same = refl; spared = λ b e. tt }
 device_spared (some x) k h = let r = by k.requests h in record { same = r.0; spared = r.1 }
   where
-    answer : (q : DeviceRead) → is_answered (device_answered x q) ≡ false → (device_answered x q ≡ q) × ((b : ℕ) → q ≡ Waiting b → ⊥)
+    answer : (q : Reading) → is_answered (device_answered x q) ≡ false → (device_answered x q ≡ q) × ((b : ℕ) → q ≡ Waiting b → ⊥)
     answer Idle h = (refl, λ b e. (let z : ◌≡◌ {A = ℕ} 0 1 = cc in omega arith))
     answer (Waiting b) h = clash refl h
     answer (Answered b y) h = (refl, λ b e. (let z : ◌≡◌ {A = ℕ} 0 1 = cc in omega arith))

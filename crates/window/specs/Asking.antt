@@ -9,8 +9,8 @@ use Rattle.pins.specs.PortWords.{plain, stop_word, request_of}
 use Rattle.pins.specs.declared.ports.Request.{Request}
 use Rattle.pins.specs.declared.ports.Request.TheVariants.{Read}
 use Rattle.window.specs.declared.entry.Tag.TheVariants.{Load, Device}
-use Rattle.window.specs.declared.entry.DeviceRead.{DeviceRead}
-use Rattle.window.specs.declared.entry.DeviceRead.TheVariants.{Idle, Waiting, Answered}
+use Rattle.pins.specs.declared.held.Reading.{Reading}
+use Rattle.pins.specs.declared.held.Reading.TheVariants.{Idle, Waiting, Answered}
 use Rattle.window.specs.declared.entry.Source.{Source}
 use Rattle.window.specs.declared.entry.Source.TheVariants.{Unknown, Memory, Forwarded}
 use Rattle.window.specs.declared.datapath.Datapath.{Datapath}
@@ -44,7 +44,7 @@ abbrev pub load_asked : Datapath → ℕ → Datapath
 load_asked k n = given (load_address k n) k (λ _. with_tags k (queue_pushed k.requests (Load (number n))))
 
 -- no store waits, and no device is read
-abbrev pub free_at : DeviceRead → ℕ → Bool
+abbrev pub free_at : Reading → ℕ → Bool
 free_at Idle c = c == 0
 free_at (Waiting b) c = false
 free_at (Answered b x) c = false

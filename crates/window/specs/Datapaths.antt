@@ -11,8 +11,8 @@ use Rattle.window.specs.declared.entry.Entry.{Entry}
 use Rattle.window.specs.declared.entry.Number.{Number}
 use Rattle.window.specs.declared.entry.Tag.{Tag}
 use Rattle.window.specs.declared.entry.Tag.TheVariants.{Acknowledgment, Load, Stale, Device}
-use Rattle.window.specs.declared.entry.DeviceRead.{DeviceRead}
-use Rattle.window.specs.declared.entry.DeviceRead.TheVariants.{Idle}
+use Rattle.pins.specs.declared.held.Reading.{Reading}
+use Rattle.pins.specs.declared.held.Reading.TheVariants.{Idle}
 use Rattle.window.specs.declared.datapath.Datapath.{Datapath}
 use Rattle.window.specs.Entries.{given, number, fresh, with_predicted, with_word, with_left, with_right, with_loaded}
 use Rattle.window.specs.Operands.{left_register, right_register}
@@ -67,7 +67,7 @@ with_wants k q = record { regs = k.regs; pc = k.pc; stores = k.stores; device = 
 abbrev pub with_tags : Datapath → Requests → Datapath
 with_tags k q = record { regs = k.regs; pc = k.pc; stores = k.stores; device = k.device; window = k.window; requests = q; fetches = k.fetches }
 
-abbrev pub with_reading : Datapath → DeviceRead → Datapath
+abbrev pub with_reading : Datapath → Reading → Datapath
 with_reading k d = record { regs = k.regs; pc = k.pc; stores = k.stores; device = d; window = k.window; requests = k.requests; fetches = k.fetches }
 
 -- a word of code that came

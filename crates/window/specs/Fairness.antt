@@ -18,8 +18,8 @@ use Rattle.pins.specs.Reach.{Reach, Stands}
 use Rattle.window.specs.declared.entry.Entry.{Entry}
 use Rattle.window.specs.declared.entry.Tag.{Tag}
 use Rattle.window.specs.declared.entry.Tag.TheVariants.{Acknowledgment, Load, Stale, Device}
-use Rattle.window.specs.declared.entry.DeviceRead.{DeviceRead}
-use Rattle.window.specs.declared.entry.DeviceRead.TheVariants.{Idle, Waiting, Answered}
+use Rattle.pins.specs.declared.held.Reading.{Reading}
+use Rattle.pins.specs.declared.held.Reading.TheVariants.{Idle, Waiting, Answered}
 use Rattle.window.specs.declared.entry.Source.TheVariants.{Memory}
 use Rattle.window.specs.Newest.{source}
 use Rattle.window.specs.Machine.{Core}
@@ -44,12 +44,12 @@ any (b ∷ bs) = b || any bs
 abbrev pub load_open : ℕ → Core → Bool
 load_open n k = any (map (is_load n) k.requests)
 
-abbrev pub is_idle : DeviceRead → Bool
+abbrev pub is_idle : Reading → Bool
 is_idle Idle = true
 is_idle (Waiting a) = false
 is_idle (Answered a x) = false
 
-abbrev pub is_answered : DeviceRead → Bool
+abbrev pub is_answered : Reading → Bool
 is_answered Idle = false
 is_answered (Waiting a) = false
 is_answered (Answered a x) = true

@@ -11,9 +11,10 @@ use Rattle.window.specs.declared.entry.Entry.{Entry}
 use Rattle.window.specs.declared.entry.Number.{Number}
 use Rattle.window.specs.declared.entry.Tag.{Tag}
 use Rattle.window.specs.declared.entry.Tag.TheVariants.{Acknowledgment, Load, Stale, Device}
-use Rattle.window.specs.declared.entry.Store.{Store}
-use Rattle.window.specs.declared.entry.DeviceRead.{DeviceRead}
-use Rattle.window.specs.declared.entry.DeviceRead.TheVariants.{Idle, Waiting, Answered}
+use Rattle.pins.specs.declared.held.Store.{Store}
+use Rattle.pins.specs.Held.{answered}
+use Rattle.pins.specs.declared.held.Reading.{Reading}
+use Rattle.pins.specs.declared.held.Reading.TheVariants.{Idle, Waiting, Answered}
 use Rattle.window.specs.declared.entry.Source.{Source}
 use Rattle.window.specs.declared.entry.Source.TheVariants.{Unknown, Memory, Forwarded}
 use Rattle.window.specs.Entries.{given, number, fresh, with_word, with_left, with_right, with_outcome, with_loaded, with_predicted}
@@ -26,7 +27,7 @@ pub record Core : Type 0 where
   pub pc : ℕ
   -- retired stores that wait, oldest first
   pub stores : List Store
-  pub device : DeviceRead
+  pub device : Reading
   -- the instructions at work, oldest first
   pub window : List Entry
   -- what the open requests are for, and which instructions the wanted words of code (None: it was flushed), oldest first
@@ -181,7 +182,7 @@ plain_ret k = record { pc = k.pc; reg = 0; val = 0 }
 abbrev pub retire_write : Core → Entry → List Entry → ℕ → ℕ → ℕ → Retired
 retire_write k e es d x b = finish k e es (put k.regs d x) b k.stores (write_ret k d x)
 
-abbrev pub retire_device : Core → Entry → List Entry → ℕ → DeviceRead → Retired
+abbrev pub retire_device : Core → Entry → List Entry → ℕ → Reading → Retired
 retire_device k e es d Idle = none_retired k
 retire_device k e es d (Waiting b) = none_retired k
 retire_device k e es d (Answered b x) = retire_write k e es d x (add k.pc 4)
@@ -205,7 +206,7 @@ abbrev pub retire : Core → Retired
 retire k = retire_oldest k k.window
 
 -- it has stopped: the oldest halts, and nothing before it is left to be done
-abbrev pub halts_if : List Store → DeviceRead → ℕ → Opt ℕ
+abbrev pub halts_if : List Store → Reading → ℕ → Opt ℕ
 halts_if [] Idle j = some j
 halts_if [] (Waiting b) j = none
 halts_if [] (Answered b x) j = none
@@ -270,7 +271,7 @@ abbrev pub drain : Core → Asked
 drain k = drain_first k k.stores
 
 -- the device that the oldest reads, with no store waiting: the reading is seen outside
-abbrev pub device_if : Core → ℕ → Bool → DeviceRead → List Store → Asked
+abbrev pub device_if : Core → ℕ → Bool → Reading → List Store → Asked
 device_if k b false d ps = nothing_asked k
 device_if k b true (Waiting x) ps = nothing_asked k
 device_if k b true (Answered x y) ps = nothing_asked k
@@ -303,10 +304,8 @@ abbrev pub ask_device : Core → Asked
 ask_device k = device_oldest k k.window
 
 -- an answer to a request; one that nobody waits for is ignored
-abbrev pub device_answered : ℕ → DeviceRead → DeviceRead
-device_answered x Idle = Idle
-device_answered x (Waiting a) = Answered a x
-device_answered x (Answered a y) = Answered a y
+abbrev pub device_answered : ℕ → Reading → Reading
+device_answered x d = answered x d
 
 abbrev pub get_data : ℕ → Core → ℕ → Entry → Option Entry
 get_data x k n e = Some (with_loaded e x)

@@ -6,7 +6,7 @@ use Rattle.isa.specs.Registers.{value_in}
 use Rattle.isa.specs.declared.execute.Outcome.{Outcome}
 use Rattle.isa.specs.declared.execute.Outcome.TheVariants.{Write as Writes, Jump as Jumps, Load as Loads, Store as Stores, Halt as Halts}
 use Rattle.window.specs.declared.entry.Entry.{Entry}
-use Rattle.window.specs.declared.entry.Store.{Store}
+use Rattle.pins.specs.declared.held.Store.{Store}
 use Rattle.window.specs.declared.entry.Source.{Source}
 use Rattle.window.specs.declared.entry.Source.TheVariants.{Unknown, Memory, Forwarded}
 use Rattle.window.specs.Entries.{given}

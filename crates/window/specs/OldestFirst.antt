@@ -9,9 +9,9 @@ use Rattle.isa.specs.declared.execute.Outcome.{Outcome}
 use Rattle.isa.specs.declared.execute.Outcome.TheVariants.{Write as Writes, Jump as Jumps, Load as Loads, Store as Stores, Halt as Halts}
 use Rattle.pins.specs.Ports.{In}
 use Rattle.window.specs.declared.entry.Entry.{Entry}
-use Rattle.window.specs.declared.entry.Store.{Store}
-use Rattle.window.specs.declared.entry.DeviceRead.{DeviceRead}
-use Rattle.window.specs.declared.entry.DeviceRead.TheVariants.{Idle, Waiting, Answered}
+use Rattle.pins.specs.declared.held.Store.{Store}
+use Rattle.pins.specs.declared.held.Reading.{Reading}
+use Rattle.pins.specs.declared.held.Reading.TheVariants.{Idle, Waiting, Answered}
 use Rattle.window.specs.Entries.{given}
 use Rattle.window.specs.Machine.{Core}
 use Rattle.window.specs.Clocks.{Move, reads_left, reads_right, executes, forwards, retires, Port, leaves, loads, drains, asks_device, room, Schedule}
@@ -43,7 +43,7 @@ load_port t (Some x) b ps y = stores_first ps y
 load_port t None true ps y = stores_first ps y
 load_port t None false ps y = take_turns t ps
 
-abbrev pub device_port : DeviceRead → List Store → Port → Port
+abbrev pub device_port : Reading → List Store → Port → Port
 device_port Idle [] y = asks_device
 device_port Idle (p ∷ ps) y = drains
 device_port (Waiting b) ps y = stores_first ps y

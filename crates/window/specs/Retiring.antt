@@ -10,10 +10,11 @@ use Rattle.pins.specs.declared.ports.Request.{Request}
 use Rattle.pins.specs.declared.ports.Request.TheVariants.{Write}
 use Rattle.rings.specs.Places.{cut_to}
 use Rattle.window.specs.declared.entry.Entry.{Entry}
-use Rattle.window.specs.declared.entry.Store.{Store}
+use Rattle.pins.specs.declared.held.Store.{Store}
 use Rattle.window.specs.declared.entry.Tag.TheVariants.{Acknowledgment}
-use Rattle.window.specs.declared.entry.DeviceRead.{DeviceRead}
-use Rattle.window.specs.declared.entry.DeviceRead.TheVariants.{Idle, Waiting, Answered}
+use Rattle.pins.specs.Held.{answer_of}
+use Rattle.pins.specs.declared.held.Reading.{Reading}
+use Rattle.pins.specs.declared.held.Reading.TheVariants.{Idle, Waiting, Answered}
 use Rattle.window.specs.declared.datapath.Datapath.{Datapath}
 use Rattle.window.specs.Entries.{given}
 use Rattle.window.specs.Machine.{popped, kept, retire, drain}
@@ -74,17 +75,15 @@ with_register k d x = record { regs = record { values = put k.regs.values d x };
 abbrev pub written : Datapath → Entry → ℕ → ℕ → ℕ → Datapath
 written k e d x b = moved_on (with_register k d x) e.predicted b
 
-abbrev pub device_value : DeviceRead → Option ℕ
-device_value Idle = None
-device_value (Waiting b) = None
-device_value (Answered b x) = Some x
+abbrev pub device_value : Reading → Option ℕ
+device_value d = answer_of d
 
-abbrev pub device_retired : Datapath → Entry → ℕ → DeviceRead → Datapath
+abbrev pub device_retired : Datapath → Entry → ℕ → Reading → Datapath
 device_retired k e d Idle = k
 device_retired k e d (Waiting b) = k
 device_retired k e d (Answered b x) = written k e d x (add k.pc 4)
 
-abbrev pub device_done : Datapath → ℕ → DeviceRead → Option Retired
+abbrev pub device_done : Datapath → ℕ → Reading → Option Retired
 device_done k d Idle = None
 device_done k d (Waiting b) = None
 device_done k d (Answered b x) = Some (write_done k d x)

@@ -4,11 +4,12 @@ use Rattle.isa.specs.Words.{nth, put}
 use Rattle.isa.specs.Registers.{value_in}
 use Rattle.isa.specs.declared.execute.Outcome.{Outcome}
 use Rattle.pins.specs.PortWords.{optional}
+use Rattle.rings.specs.Searches.{newest_below}
 use Rattle.rings.specs.declared.ring.Ring.{Ring}
 use Rattle.rings.specs.RingRules.{ring_of, slot}
 use Rattle.rings.specs.Places.{held, put_at, cut_to}
 use Rattle.window.specs.declared.entry.Entry.{Entry}
-use Rattle.window.specs.declared.entry.Store.{Store}
+use Rattle.pins.specs.declared.held.Store.{Store}
 use Rattle.window.specs.declared.entry.Source.{Source}
 use Rattle.window.specs.declared.entry.Source.TheVariants.{Memory, Forwarded}
 use Rattle.window.specs.Entries.{given, fresh}
@@ -91,15 +92,6 @@ outcome_at w n = given (entry_at w n) None (λ e. e.outcome)
 
 abbrev pub items : Window → List Entry
 items w = listed no_entry w
-
--- the newest before the n-th for which f holds
-abbrev pub newest_below : (ℕ → Bool) → ℕ → Option ℕ
-newest_below f zero = None
-newest_below f (suc n) = cond (f n) (Some n) (newest_below f n)
-
--- what a test answers is what f computes
-abbrev pub Computes : (ℕ → Bool → Type 0) → (ℕ → Bool) → Type 0
-Computes Answers f = (k : ℕ) (b : Bool) → Answers k b → b ≡ f k
 
 -- the newest before the n-th that may write the register
 abbrev pub writer_below : Window → ℕ → ℕ → Option ℕ

@@ -1,9 +1,9 @@
 // The state of a core with a window, but for its tables; and the machine's rules on it.
 ghost use Rattle.std.specs.Prelude.{◌≡◌};
-ghost use Rattle.window.specs.Machine.{executed, forwarded, device_answered};
+ghost use Rattle.window.specs.Machine.{executed, forwarded};
 ghost use Rattle.window.specs.Datapaths.{datapath_start, named, operand_for, left_for, right_for, outcome_for, forward_by, forward_for, ruled, Learns, code_for, code_taken, data_for, data_taken, next_pc_of, flushed, redirect_to, redirected, wanted};
 
-use crate::entry::{DeviceRead, Entry, Number, Source, Store, Tag};
+use crate::entry::{Entry, Number, Source, Tag};
 use crate::known::{left_register, right_register, work};
 use crate::queues::{Fetches, Requests};
 use crate::ring::{Window, operand, source};
@@ -12,13 +12,15 @@ use isa::devices::DEVICES;
 use isa::execute::Outcome;
 use isa::reg::Reg;
 use isa::regs::Regs;
+use pins::held::{Reading, Store};
 
 #[derive(Clone, Copy)]
 pub struct Datapath {
     pub regs: Regs,
     pub pc: u32,
     pub stores: StoreBuffer,
-    pub device: DeviceRead,
+    // The device that the oldest reads.
+    pub device: Reading,
     pub window: Window,
     pub requests: Requests,
     pub fetches: Fetches,
@@ -52,17 +54,6 @@ impl Entry {
     }
 }
 
-impl DeviceRead {
-    fn answered(self, x: u32) -> DeviceRead
-        ensures { result ≡ device_answered x self }
-    {
-        match self {
-            DeviceRead::Waiting { address } => DeviceRead::Answered { address, value: x },
-            other => other,
-        }
-    }
-}
-
 impl Datapath {
     // Nothing has happened yet.
     pub fn start(address: u32) -> Datapath
@@ -75,7 +66,7 @@ impl Datapath {
                 address: 0,
                 value: 0,
             }),
-            device: DeviceRead::Idle,
+            device: Reading::Idle,
             window: Window::new(Entry::new(0, 0)),
             requests: Requests::new(Tag::Acknowledgment),
             fetches: Fetches::new(None),

@@ -28,21 +28,6 @@ pub enum Tag {
     Device,
 }
 
-// A store that is retired and waits to be requested.
-#[derive(Clone, Copy, PartialEq, Eq)]
-pub struct Store {
-    pub address: u32,
-    pub value: u32,
-}
-
-// The oldest's reading of a device: not requested; requested; answered.
-#[derive(Clone, Copy, PartialEq, Eq)]
-pub enum DeviceRead {
-    Idle,
-    Waiting { address: u32 },
-    Answered { address: u32, value: u32 },
-}
-
 // Where a load finds its word: not known yet, since an older store may be to it; in memory; with a store before it.
 #[derive(Clone, Copy, PartialEq, Eq)]
 pub enum Source {

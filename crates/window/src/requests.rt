@@ -6,10 +6,11 @@ ghost use Rattle.window.specs.Datapaths.{with_tags};
 ghost use Rattle.window.specs.Asking.{memory_at, load_at, load_address, load_asked, read_of, free, device_at, device_address, device_asked, halt_at, halts};
 
 use crate::datapath::Datapath;
-use crate::entry::{DeviceRead, Number, Source, Tag};
+use crate::entry::{Number, Source, Tag};
 use crate::ring::source;
 use isa::devices::DEVICES;
 use isa::execute::{Outcome, Stop};
+use pins::held::Reading;
 use pins::ports::Request;
 
 fn memory_at(address: u32, source: Source) -> Option<u32>
@@ -67,7 +68,7 @@ impl Datapath {
     fn free(&self) -> bool
         ensures { result ≡ free self.now }
     {
-        self.device == DeviceRead::Idle && self.stores.count == 0
+        self.device == Reading::Idle && self.stores.count == 0
     }
 
     fn device_at(&self, outcome: Outcome) -> Option<u32>
@@ -91,7 +92,7 @@ impl Datapath {
         ensures asks { result ≡ read_of (device_address self.old) }
     {
         let address = self.device_address()?;
-        self.device = DeviceRead::Waiting { address };
+        self.device = Reading::Waiting { address };
         self.open(Tag::Device);
         Some(Request::Read { address })
     }

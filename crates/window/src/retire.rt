@@ -1,24 +1,13 @@
 // Retiring the oldest instruction, and requests: the machine's rules on the datapath.
 ghost use Rattle.std.specs.Prelude.{◌≡◌};
-ghost use Rattle.window.specs.Retiring.{numbers_popped, moved_on, write_done, plain_done, written, device_value, load_retired, load_done, store_retired, store_done, outcome_retired, outcome_done, retired, done, drained, drain_request};
+ghost use Rattle.window.specs.Retiring.{numbers_popped, moved_on, write_done, plain_done, written, load_retired, load_done, store_retired, store_done, outcome_retired, outcome_done, retired, done, drained, drain_request};
 
 use crate::datapath::Datapath;
-use crate::entry::{DeviceRead, Entry, Number, Store, Tag};
+use crate::entry::{Entry, Number, Tag};
 use isa::execute::Outcome;
 use isa::reg::Reg;
+use pins::held::{Reading, Store};
 use pins::ports::{Request, Retired};
-
-impl DeviceRead {
-    // What the device answered, once it has.
-    fn value(self) -> Option<u32>
-        ensures { result ≡ device_value self }
-    {
-        match self {
-            DeviceRead::Answered { value, .. } => Some(value),
-            _ => None,
-        }
-    }
-}
 
 impl Datapath {
     // The oldest leaves the window: in the queues each number is one less.
@@ -42,7 +31,7 @@ impl Datapath {
             self.flush(0);
         }
         self.pc = next;
-        self.device = DeviceRead::Idle;
+        self.device = Reading::Idle;
     }
 
     // What is shown of an instruction that writes a register, or none.
@@ -80,7 +69,7 @@ impl Datapath {
         ensures core { self.new ≡ load_retired self.old e rd.number e.loaded }
         ensures shows { result ≡ load_done self.old rd.number e.loaded }
     {
-        let value = e.loaded.or(self.device.value())?;
+        let value = e.loaded.or(self.device.answer())?;
         Some(self.retire_write(e, rd, value, self.pc.wrapping_add(4)))
     }
 
@@ -128,10 +117,7 @@ impl Datapath {
             let store = self.stores.entry(0);
             self.stores.pop();
             self.open(Tag::Acknowledgment);
-            Some(Request::Write {
-                address: store.address,
-                value: store.value,
-            })
+            Some(store.into())
         } else {
             None
         }

@@ -1,36 +1,19 @@
 // The window: the instructions at work as a ring, oldest first.
-ghost use Rattle.std.specs.Prelude.{◌≡◌, ℕ, Bool};
+ghost use Rattle.std.specs.Prelude.{◌≡◌};
 ghost use Rattle.window.specs.Scans.{decides};
-ghost use Rattle.window.specs.Rings.{entry, Computes, newest_below, writer_below, operand, store_below, source_in};
+ghost use Rattle.window.specs.Rings.{entry, writer_below, operand, store_below, source_in};
 
 use crate::entry::{Entry, Source};
 use crate::stores::{self, StoreBuffer};
 use isa::reg::Reg;
 use isa::regs::Regs;
 use rings::ring::Ring;
+use rings::search::newest;
 
 // How many instructions can be at work. (The definition `size` says the same to the proofs.)
 pub const SIZE: usize = 16;
 
 pub type Window = Ring<Entry, SIZE>;
-
-// The newest before the n-th for which the test holds.
-pub(crate) fn newest<F: Fn(u32) -> bool>(n: u32, holds: F) -> Option<u32>
-    requires { F.IsAlwaysCallable holds }
-    ensures { (f : ℕ → Bool) → Computes (F.post holds) f → result ≡ newest_below f n }
-{
-    let mut k = n;
-    // A loop with a label that yields the place: the project asks for the form here.
-    'search: loop {
-        if k == 0 {
-            break 'search None;
-        }
-        k -= 1;
-        if holds(k) {
-            break 'search Some(k);
-        }
-    }
-}
 
 // The newest instruction before the n-th that may write the register.
 fn writer(window: &Window, r: Reg, n: u32) -> Option<u32>

@@ -2,10 +2,11 @@
 ghost use Rattle.std.specs.Prelude.{◌≡◌};
 ghost use Rattle.window.specs.Rings.{matches, buffer_source};
 
-use crate::entry::{Source, Store};
-use crate::ring::newest;
+use crate::entry::Source;
 use isa::devices::DEVICES;
+use pins::held::Store;
 use rings::ring::Ring;
+use rings::search::newest;
 
 pub type StoreBuffer = Ring<Store, 8>;
 

@@ -1,5 +1,5 @@
 use Rattle.std.proofs.Common.{rules, sym, ap, ◌∙◌}
-use Rattle.window.specs.declared.entry.Store.{Store}
+use Rattle.pins.specs.declared.held.Store.{Store}
 use Rattle.window.specs.declared.entry.Source.TheVariants.{Memory, Forwarded}
 use Rattle.window.specs.Entries.{given}
 use Rattle.window.specs.Rings.{no_store, buffer_entry, matches}

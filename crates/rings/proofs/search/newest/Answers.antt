@@ -1,8 +1,8 @@
 use Rattle.std.proofs.Common.{rules, ◌≡◌, sym, ap, ◌∙◌, arith}
-use Rattle.window.specs.Rings.{newest_below}
-use Rattle.window.proofs.Searches.{below_on, below_here}
-use Rattle.window.proofs.ring.newest.Goals as goal
-use Rattle.window.proofs.ring.newest.Goals.{then-k-eq0, else-k-eq0+then-holds}
+use Rattle.rings.specs.Searches.{newest_below}
+use Rattle.rings.proofs.Below.{below_on, below_here}
+use Rattle.rings.proofs.search.newest.Goals as goal
+use Rattle.rings.proofs.search.newest.Goals.{then-k-eq0, else-k-eq0+then-holds}
 
 pub search-preserved : goal.search-preserved
 search-preserved g c = (
