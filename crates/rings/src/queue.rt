@@ -1,5 +1,5 @@
 // A queue of N places: the oldest stands in front, and `count` are held.
-ghost use Rattle.std.specs.Prelude.{◌≡◌, ℕ, ◌<◌, Some, slice_get};
+ghost use Rattle.std.specs.Prelude.{◌≡◌, ℕ, ◌<◌, Some, length, slice_get};
 ghost use Rattle.rings.specs.QueueRules.{queue_of, queue_pushed, queue_popped};
 
 #[derive(Clone, Copy, PartialEq, Eq)]
@@ -33,6 +33,7 @@ impl<T: Copy, const N: usize> Queue<T, N> {
         requires { 0 < N }
         ensures rest { self.new ≡ queue_popped self.old }
         ensures oldest { slice_get self.old.at 0 ≡ Some result }
+        ensures places { length self.old.at ≡ N }
     {
         let oldest = self.at[0];
         self.at.copy_within(1.., 0);
