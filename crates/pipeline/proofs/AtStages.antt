@@ -1,13 +1,12 @@
 -- Where the stages stand in the ring is where they stand in its list.
-use Rattle.std.proofs.Common.{◌≡◌, ℕ, zero, suc, ◌+◌, ◌%◌, ◌≤◌, Bool, true, false, ◌&&◌, ◌||◌, ltb, List, [], ◌∷◌, map, length, get_or, take, sym, refl, ap, ◌∙◌, arith}
+use Rattle.std.proofs.Common.{◌≡◌, ℕ, zero, suc, ◌+◌, ◌%◌, Bool, ◌||◌, List, [], ◌∷◌, map, get_or, take, refl, ap, ◌∙◌, arith}
 use Rattle.std.specs.List.{list_any}
 use Rattle.isa.specs.Words.{pick}
 use Rattle.window.specs.declared.entry.Entry.{Entry}
 use Rattle.window.specs.declared.entry.Tag.{Tag}
-use Rattle.window.specs.declared.entry.Tag.TheVariants.{Acknowledgment}
 use Rattle.window.specs.declared.datapath.Datapath.{Datapath}
 use Rattle.window.specs.Rings.{size, Window, no_entry, entry, around, listed, items}
-use Rattle.window.specs.Queues.{Requests, queued, tags, SizedQueue}
+use Rattle.window.specs.Queues.{Requests, queued, tags}
 use Rattle.window.specs.Fairness.{is_load, any, load_open}
 use Rattle.window.specs.Datapaths.{lists, SizedDatapath}
 use Rattle.window.proofs.Circle.{slot_is}

@@ -1,5 +1,6 @@
 // Where the stages' instructions stand in the window.
 ghost use Rattle.std.specs.Prelude.{◌≡◌};
+ghost use Rattle.window.specs.Rings.{entry};
 ghost use Rattle.pipeline.specs.Stages.{is_load, asked, waits_outcome, waits, stands, first_from, at_stage, ask_outcome, ask_at};
 
 use isa::devices::DEVICES;
@@ -70,19 +71,19 @@ impl Stage {
         }
     }
 
+    fn stands_at(self, path: &Datapath, n: u32) -> bool
+        ensures { result ≡ stands self path.now.requests n (entry path.now.window n) }
+    {
+        self.stands(&path.requests, n, path.window.entry(n))
+    }
+
     // The oldest instruction at which it stands; as many as are at work if there is none.
     pub fn first(self, path: &Datapath) -> u32
         ensures { result ≡ at_stage self path.now }
     {
-        for n in 0..path.window.count {
-            let Some(e) = path.window.get(n) else {
-                return n;
-            };
-            if self.stands(&path.requests, n, e) {
-                return n;
-            }
-        }
-        path.window.count
+        (0..path.window.count)
+            .find(|n| self.stands_at(path, *n))
+            .unwrap_or(path.window.count)
     }
 }
 

@@ -63,14 +63,6 @@ has_none : {A : Type 0} (x : Option A) → has x ≡ false → x ≡ None
 has_none None q = refl
 has_none (Some x) q = clash refl q
 
-or_left : (a b : Bool) → a || b ≡ false → a ≡ false
-or_left true b h = clash refl h
-or_left false b h = refl
-
-or_right : (a b : Bool) → a || b ≡ false → b ≡ false
-or_right true b h = clash refl h
-or_right false b h = h
-
 module _ {T : Type 0} (s : Schedule T) (f : Fair s) {l : ℕ} (x : Clock (machine s) l) where
   abbrev z : State T
   z = x.at.state

@@ -91,10 +91,6 @@ drains_for t k e y (Loads r b) n h = by (device b) n
 drains_for t k e y (Stores b x) n h = stores_go k.stores y h
 drains_for t k e y (Halts s) n h = stores_go k.stores y h
 
-not_true : (b : Bool) → (b ≡ true → ⊥) → b ≡ false
-not_true true f = absurd (f refl)
-not_true false f = refl
-
 no_pick : {A : Type 0} (b : Bool) (x y : A) → b ≡ true → pick b x y ≡ x
 no_pick b x y e = ap (λ b. pick b x y) e
 

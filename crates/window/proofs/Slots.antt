@@ -4,7 +4,7 @@ use mathlib.Core.Option.{Option as Opt, some, none}
 use Rattle.isa.specs.Manual.{Mem}
 use Rattle.pins.specs.Outside.{Io, Hist, O, begin, onward, outside, after}
 use Rattle.pins.specs.View.{pop}
-use Rattle.pins.specs.Waits.{ages, ages1, aged, age0}
+use Rattle.pins.specs.Waits.{ages1, aged, age0}
 use Rattle.pins.proofs.Waiting.{wait_laws}
 use Rattle.window.proofs.Marks.{Young}
 
@@ -150,6 +150,3 @@ falling_onward o (x ∷ h) s = falling_onward (after o x) h (falling_after o x s
 
 pub falling_outside : (m : Mem) (h : Hist) → Falling (ages1 (outside m h).datas)
 falling_outside m h = falling_onward (begin m) h tt
-
-falling_codes_after : (o : O) (x : Io) → Falling (ages o.codes) → Falling (ages (after o x).codes)
-falling_codes_after o x s = subst Falling (sym (wait_laws.codes_aged o x)) (falling_aged x.in1.code x.out1.code (ages o.codes) s)

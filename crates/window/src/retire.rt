@@ -78,12 +78,11 @@ impl Datapath {
         ensures core { self.new ≡ store_retired self.old e store }
         ensures shows { result ≡ store_done self.old }
     {
-        if self.stores.count < 8 {
-            self.stores.push(store);
-            Some(self.retire_plain(e, self.pc.wrapping_add(4)))
-        } else {
-            None
+        if self.stores.full() {
+            return None;
         }
+        self.stores.push(store);
+        Some(self.retire_plain(e, self.pc.wrapping_add(4)))
     }
 
     fn retire_outcome(&mut self, e: Entry, outcome: Outcome) -> Option<Retired>
@@ -113,13 +112,12 @@ impl Datapath {
         ensures core { self.new ≡ drained self.old }
         ensures shows { result ≡ drain_request self.old }
     {
-        if self.stores.count > 0 {
-            let store = self.stores.entry(0);
-            self.stores.pop();
-            self.open(Tag::Acknowledgment);
-            Some(store.into())
-        } else {
-            None
+        if self.stores.count == 0 {
+            return None;
         }
+        let store = self.stores.entry(0);
+        self.stores.pop();
+        self.open(Tag::Acknowledgment);
+        Some(store.into())
     }
 }
