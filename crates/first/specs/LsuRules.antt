@@ -3,13 +3,11 @@ use Rattle.std.specs.Prelude.{ℕ, ◌-◌, ◌%◌, Bool, cond, ◌&&◌, [], �
 use Rattle.isa.specs.Words.{add}
 use Rattle.rings.specs.declared.queue.Queue.{Queue}
 use Rattle.pins.specs.declared.ports.Request.{Request}
-use Rattle.pins.specs.declared.ports.Request.TheVariants.{Write}
-use Rattle.pins.specs.declared.held.Store.{Store}
 use Rattle.first.specs.declared.state.Open.{Open}
 use Rattle.first.specs.declared.state.Open.TheVariants.{Acknowledgment, Load as ForLoad}
 use Rattle.pins.specs.Held.{write_of, answered}
 use Rattle.pins.specs.declared.held.Reading.{Reading}
-use Rattle.pins.specs.declared.held.Reading.TheVariants.{Idle, Waiting, Answered}
+use Rattle.pins.specs.declared.held.Reading.TheVariants.{Idle, Waiting}
 use Rattle.first.specs.declared.state.Lsu.{Lsu}
 use Rattle.first.specs.StoreRules.{buffer_start, entry, buffer_pop}
 
