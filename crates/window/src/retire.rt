@@ -35,9 +35,7 @@ impl Datapath {
     {
         if next == predicted {
             self.pop_numbers();
-            if self.window.count > 0 {
-                self.window.pop();
-            }
+            self.window.pop_if_any();
         } else {
             self.flush(0);
         }
@@ -128,7 +126,7 @@ impl Datapath {
         }
         let Store { address, value } = self.stores.entry(0);
         self.stores.pop();
-        self.open(Tag::Acknowledgment);
+        self.requests.push_if_room(Tag::Acknowledgment);
         Some(Request::Write { address, value })
     }
 }
