@@ -1,8 +1,8 @@
 // What stands in a ring and in a queue, by its number: it is held where that is less than `count`.
-ghost use Rattle.std.specs.Prelude.{◌≡◌, ℕ, ◌<◌, Some, length, slice_get, nat_le};
+ghost use Rattle.std.specs.Prelude.{◌≡◌, ℕ, ◌<◌, ◌≤◌, ◌^◌, Some, length, slice_get, nat_le};
 ghost use Rattle.std.specs.Array.{IsMapOf};
 ghost use Rattle.std.specs.Array.Iter.{IntoIterFitsInMemory};
-ghost use Rattle.rings.specs.Places.{held, put_at, cut_to, queue_oldest, queue_shifted};
+ghost use Rattle.rings.specs.Places.{pushed_if_room, popped_if_any, queue_pushed_if_room, held, put_at, cut_to, queue_oldest, queue_shifted};
 
 use crate::queue::Queue;
 use crate::ring::Ring;
@@ -12,6 +12,30 @@ impl<T: Copy, const N: usize> Ring<T, N> {
         ensures { result ≡ nat_le N self.now.count }
     {
         N <= self.count as usize
+    }
+
+    // One more behind the newest; a full ring stays as it is.
+    pub fn push_if_room(&mut self, x: T)
+        requires nonzero { 0 < N }
+        requires count_fits { N < 2 ^ 32 }
+        ensures { self.new ≡ pushed_if_room self.old x }
+    {
+        if self.full() {
+            return;
+        }
+        self.push(x);
+    }
+
+    // Without the oldest; an empty ring stays as it is.
+    pub fn pop_if_any(&mut self)
+        requires nonzero { 0 < N }
+        requires begin_fits { N ≤ 2 ^ 32 }
+        ensures { self.new ≡ popped_if_any self.old }
+    {
+        if self.count == 0 {
+            return;
+        }
+        self.pop();
     }
 
     // The n-th oldest.
@@ -52,6 +76,17 @@ impl<T: Copy, const N: usize> Queue<T, N> {
         ensures { result ≡ nat_le N self.now.count }
     {
         self.count as usize >= N
+    }
+
+    // One more behind the newest; a full queue stays as it is.
+    pub fn push_if_room(&mut self, x: T)
+        requires nonzero { 0 < N }
+        requires count_fits { N < 2 ^ 32 }
+        ensures { self.new ≡ queue_pushed_if_room self.old x }
+    {
+        if !self.full() {
+            self.push(x);
+        }
     }
 
     // What stands in front.

@@ -20,7 +20,8 @@ use Rattle.window.specs.declared.datapath.Datapath.{Datapath}
 use Rattle.window.specs.Entries.{given, number}
 use Rattle.window.specs.Machine.{with_requests, Asked, nothing_asked, ask_from, ask_outcome, ask_load, device_if, device_outcome, device_oldest, ask_device, halts_if, halts_outcome, halts_oldest, halted}
 use Rattle.window.specs.Rings.{items, waiting}
-use Rattle.window.specs.Queues.{queue_pushed, wants}
+use Rattle.rings.specs.Places.{queue_pushed_if_room}
+use Rattle.window.specs.Queues.{wants}
 use Rattle.window.specs.Datapaths.{with_tags, lists, SizedDatapath}
 use Rattle.window.specs.Asking.{read_of, memory_at, load_at, load_address, load_asked, free_at, device_at, device_address, device_asked, halt_at, halts, AskingLaws}
 use Rattle.window.proofs.Cases.{given_cases}
@@ -38,7 +39,7 @@ module _ (k : Datapath) (s : SizedDatapath k) (room : k.requests.count < 4) wher
   -- a load
   module _ (n : ℕ) where
     abbrev load_then : Option ℕ → Datapath
-    load_then o = given o k (λ _. with_tags k (queue_pushed k.requests (Load (number n))))
+    load_then o = given o k (λ _. with_tags k (queue_pushed_if_room k.requests (Load (number n))))
 
     load_from : (b : ℕ) (t : Bool) (q : Source) → Asks (pick t None (memory_at b q)) (load_then (pick t None (memory_at b q))) (ask_from (lists k) n b t q)
     load_from b true q = record { core = refl; req = refl }
@@ -78,7 +79,7 @@ module _ (k : Datapath) (s : SizedDatapath k) (room : k.requests.count < 4) wher
     stores = k.stores;
     device = Waiting b;
     window = k.window;
-    requests = queue_pushed k.requests Device;
+    requests = queue_pushed_if_room k.requests Device;
     fetches = k.fetches;
   })
 

@@ -6,8 +6,8 @@ use Rattle.isa.specs.Words.{nth, put}
 use Rattle.pins.specs.PortWords.{optional}
 use Rattle.rings.specs.declared.ring.Ring.{Ring}
 use Rattle.rings.specs.RingRules.{slot}
-use Rattle.rings.specs.Places.{held, put_at, cut_to}
-use Rattle.window.specs.Rings.{around, rest, pushed, popped, element, listed, Sized, ListLaws}
+use Rattle.rings.specs.Places.{pushed_if_room, popped_if_any, held, put_at, cut_to}
+use Rattle.window.specs.Rings.{around, rest, element, listed, Sized, ListLaws}
 use Rattle.window.proofs.Cases.{some_none}
 use Rattle.window.proofs.Circle.{by_test, slot_is, around_length, around_push, around_pop, around_none, around_put, put_beyond, around_take, take_beyond, around_nth, nth_beyond}
 
@@ -18,14 +18,14 @@ take_put (y ∷ xs) zero x h = refl
 take_put (y ∷ xs) (suc n) x h = ap (λ z. y ∷ z) (take_put xs n x (omega arith))
 
 module _ {A : Type 0} (N : ℕ) (positive : 0 < N) (d : A) where
-  list_push : (w : Ring A N) (x : A) → Sized w → w.count < N → listed d (pushed w x) ≡ listed d w ++ (x ∷ [])
+  list_push : (w : Ring A N) (x : A) → Sized w → w.count < N → listed d (pushed_if_room w x) ≡ listed d w ++ (x ∷ [])
   unfolding listed
   list_push w x s l =
       by_test (λ (v : Ring A N). listed d v ≡ listed d w ++ (x ∷ [])) w.count N _ _
       (λ _. rw (add-one w.count) (around_push N positive d w.at w.begin w.count _ x s.slots l (slot_is N w.begin w.count)))
       (λ g. absurd (omega arith))
 
-  list_pop : (w : Ring A N) → listed d (popped w) ≡ rest (listed d w)
+  list_pop : (w : Ring A N) → listed d (popped_if_any w) ≡ rest (listed d w)
   unfolding listed
   list_pop w =
       by_test (λ (v : Ring A N). listed d v ≡ rest (listed d w)) 0 w.count _ _
@@ -61,15 +61,15 @@ module _ {A : Type 0} (N : ℕ) (positive : 0 < N) (d : A) where
   unfolding listed
   list_length w = around_length N positive d w.at w.begin w.count
 
-  list_oldest : (w : Ring A N) → 0 < w.count → listed d w ≡ element d w 0 ∷ listed d (popped w)
+  list_oldest : (w : Ring A N) → 0 < w.count → listed d w ≡ element d w 0 ∷ listed d (popped_if_any w)
   list_oldest w l = by (listed d w) refl
     where
-      by : (xs : List A) → listed d w ≡ xs → listed d w ≡ element d w 0 ∷ listed d (popped w)
+      by : (xs : List A) → listed d w ≡ xs → listed d w ≡ element d w 0 ∷ listed d (popped_if_any w)
       by [] e = some_none (list_nth w 0 l) (ap (λ (z : List A). nth z 0) e)
       by (x ∷ xs) e =
           let h : some x ≡ some (element d w 0) = sym (ap (λ (z : List A). nth z 0) e) ∙ list_nth w 0 l in
           let same : x ≡ element d w 0 = cc in
-          let tail : xs ≡ listed d (popped w) = sym (list_pop w ∙ ap rest e) in
+          let tail : xs ≡ listed d (popped_if_any w) = sym (list_pop w ∙ ap rest e) in
           e ∙ (λ i. same i ∷ tail i)
 
   list_empty : (w : Ring A N) → w.count ≤ 0 → listed d w ≡ []

@@ -14,7 +14,7 @@ use Rattle.window.specs.declared.datapath.Datapath.{Datapath}
 use Rattle.window.specs.Entries.{given}
 use Rattle.window.specs.Machine.{popped, kept, retag, renumber, Retired, none_retired, leave, retire_write, retire_device, retire_store, retire_outcome, retire_oldest, retire, drain_first, drain}
 use Rattle.window.specs.Rings.{entry, items, waiting, rest}
-use Rattle.window.specs.Rings as rings
+use Rattle.rings.specs.Places.{pushed_if_room, popped_if_any}
 use Rattle.window.specs.Queues.{wants}
 use Rattle.window.specs.Datapaths.{lists, SizedDatapath}
 use Rattle.window.specs.Retiring.{stayed, emptied, moved_on, plain_done, with_register, written, device_retired, device_done, load_retired, load_done, with_buffer, store_retired, store_done, outcome_retired, outcome_done, retired, done, drained, drain_request, rets_of, RetiringLaws}
@@ -98,21 +98,21 @@ module _ (k : Datapath) (s : SizedDatapath k) (e : Entry) (es : List Entry) (we 
   load_does d None = device_does d k.device
   load_does d (Some x) = write_does d x (add k.pc 4)
 
-  buffer_sized : (p : Store) → SizedDatapath (with_buffer k (rings.pushed k.stores p))
+  buffer_sized : (p : Store) → SizedDatapath (with_buffer k (pushed_if_room k.stores p))
   buffer_sized p = record { window = s.window; stores = buffer_laws.list.push_sized k.stores p s.stores; requests = s.requests; fetches = s.fetches }
 
   store_does : (p : Store) → Does k (store_retired k e p) (rets_of (store_done k)) (retire_store (lists k) e es p (ltb (length (waiting k.stores)) 8))
   store_does p = subst (λ n. Does k (store_retired k e p) (rets_of (store_done k)) (retire_store (lists k) e es p (ltb n 8))) (sym (buffer_laws.list.count k.stores)) (by (ltb k.stores.count 8) refl)
     where
       by : (t : Bool) → ltb k.stores.count 8 ≡ t
-          → Does k (cond t (moved_on (with_buffer k (rings.pushed k.stores p)) e.predicted (add k.pc 4)) k)
+          → Does k (cond t (moved_on (with_buffer k (pushed_if_room k.stores p)) e.predicted (add k.pc 4)) k)
           (rets_of (cond t (Some (plain_done k)) None)) (retire_store (lists k) e es p t)
       by false q = nothing
       by true q = record {
-        core = moved_is (with_buffer k (rings.pushed k.stores p)) e.predicted (add k.pc 4) (buffer_sized p)
+        core = moved_is (with_buffer k (pushed_if_room k.stores p)) e.predicted (add k.pc 4) (buffer_sized p)
             ∙ (λ i. leave (lists k) (tail_is i) k.regs.values (add k.pc 4) (buffer_laws.list.push k.stores p s.stores (ltb-true k.stores.count 8 q) i) (eqb (add k.pc 4) e.predicted));
         rets = refl;
-        sized = moved_sized (with_buffer k (rings.pushed k.stores p)) e.predicted (add k.pc 4) (buffer_sized p);
+        sized = moved_sized (with_buffer k (pushed_if_room k.stores p)) e.predicted (add k.pc 4) (buffer_sized p);
       }
 
   outcome_does : (o : Outcome) → Does k (outcome_retired k e o) (rets_of (outcome_done k e o)) (retire_outcome (lists k) e es o)
@@ -137,7 +137,7 @@ retire_does k s =
     (λ l.
     let w = ring_laws.list.oldest k.window l in
     subst (λ (z : List Entry). Does k (given (entry k.window 0).outcome k (outcome_retired k (entry k.window 0))) (rets_of (given (entry k.window 0).outcome None (outcome_done k (entry k.window 0)))) (retire_oldest (lists k) z))
-    (sym w) (known_does k s (entry k.window 0) (items (rings.popped k.window)) w (entry k.window 0).outcome))
+    (sym w) (known_does k s (entry k.window 0) (items (popped_if_any k.window)) w (entry k.window 0).outcome))
     (λ l.
     let z : k.window.count ≡ 0 = omega arith in
     subst (λ (y : List Entry). Does k k [] (retire_oldest (lists k) y)) (sym (ring_laws.list.empty k.window l)) (record { core = refl; rets = refl; sized = s }))
@@ -149,7 +149,7 @@ drain_is k s m =
     (λ l. (λ i. record {
       regs = k.regs.values;
       pc = k.pc;
-      stores = waiting (rings.popped k.stores);
+      stores = waiting (popped_if_any k.stores);
       device = k.device;
       window = items k.window;
       requests = queue_laws.requests.push k.requests Acknowledgment s.requests m i;

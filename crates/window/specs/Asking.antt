@@ -17,7 +17,7 @@ use Rattle.window.specs.declared.datapath.Datapath.{Datapath}
 use Rattle.window.specs.Entries.{given, number}
 use Rattle.window.specs.Machine.{ask_load, ask_device, halted}
 use Rattle.window.specs.Rings.{entry_at, source_in}
-use Rattle.window.specs.Queues.{queue_pushed}
+use Rattle.rings.specs.Places.{queue_pushed_if_room}
 use Rattle.window.specs.Datapaths.{with_tags, lists, SizedDatapath}
 
 abbrev pub read_of : Option ℕ → Option Request
@@ -41,7 +41,7 @@ abbrev pub load_address : Datapath → ℕ → Option ℕ
 load_address k n = given (entry_at k.window n) None (λ e. given e.outcome None (load_at k n))
 
 abbrev pub load_asked : Datapath → ℕ → Datapath
-load_asked k n = given (load_address k n) k (λ _. with_tags k (queue_pushed k.requests (Load (number n))))
+load_asked k n = given (load_address k n) k (λ _. with_tags k (queue_pushed_if_room k.requests (Load (number n))))
 
 -- no store waits, and no device is read
 abbrev pub free_at : Reading → ℕ → Bool
@@ -70,7 +70,7 @@ device_asked k = given (device_address k) k (λ b. record {
   stores = k.stores;
   device = Waiting b;
   window = k.window;
-  requests = queue_pushed k.requests Device;
+  requests = queue_pushed_if_room k.requests Device;
   fetches = k.fetches;
 })
 

@@ -6,7 +6,7 @@ use Rattle.isa.specs.Registers.{no_regs}
 use Rattle.isa.specs.declared.reg.Reg.{Reg}
 use Rattle.isa.specs.declared.execute.Outcome.{Outcome}
 use Rattle.isa.specs.declared.execute.Outcome.TheVariants.{Write as Writes, Jump as Jumps, Load as Loads, Store as Stores, Halt as Halts}
-use Rattle.rings.specs.Places.{put_at, cut_to}
+use Rattle.rings.specs.Places.{pushed_if_room, queue_pushed_if_room, put_at, cut_to}
 use Rattle.window.specs.declared.entry.Entry.{Entry}
 use Rattle.window.specs.declared.entry.Number.{Number}
 use Rattle.window.specs.declared.entry.Tag.{Tag}
@@ -17,8 +17,8 @@ use Rattle.window.specs.declared.datapath.Datapath.{Datapath}
 use Rattle.window.specs.Entries.{given, number, fresh, with_predicted, with_word, with_left, with_right, with_loaded}
 use Rattle.window.specs.Operands.{left_register, right_register}
 use Rattle.window.specs.Machine.{Core, begun, learn, read_left, read_right, executed, execute, forwarded, forward, kept, redirect, device_answered, take_data, take_code, next_pc, fetch}
-use Rattle.window.specs.Rings.{size, Window, ring_start, pushed, operand, source_in, entry_at, buffer_start, items, waiting, Sized}
-use Rattle.window.specs.Queues.{queue_pushed, SizedQueue, Requests, requests_start, request_oldest, request_popped, requests_by, Fetches, fetches_start, fetch_oldest, fetch_popped, fetches_by, tags, wants}
+use Rattle.window.specs.Rings.{size, Window, ring_start, operand, source_in, entry_at, buffer_start, items, waiting, Sized}
+use Rattle.window.specs.Queues.{SizedQueue, Requests, requests_start, request_oldest, request_popped, requests_by, Fetches, fetches_start, fetch_oldest, fetch_popped, fetches_by, tags, wants}
 
 abbrev pub datapath_start : ℕ → Datapath
 datapath_start a = record { regs = no_regs; pc = a; stores = buffer_start; device = Idle; window = ring_start; requests = requests_start; fetches = fetches_start }
@@ -125,9 +125,9 @@ wanted k g = record {
   pc = k.pc;
   stores = k.stores;
   device = k.device;
-  window = pushed k.window (fresh (next_pc_of k) g);
+  window = pushed_if_room k.window (fresh (next_pc_of k) g);
   requests = k.requests;
-  fetches = queue_pushed k.fetches (Some (number k.window.count));
+  fetches = queue_pushed_if_room k.fetches (Some (number k.window.count));
 }
 
 -- the machine's state that it stands for

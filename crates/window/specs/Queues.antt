@@ -1,10 +1,10 @@
 -- The queues of open requests and of wanted words of code, at most four of each: what the code does with them, and what that is to their lists.
-use Rattle.std.specs.Prelude.{◌≡◌, ℕ, ◌+◌, ◌<◌, ◌≤◌, cond, List, [], ◌∷◌, ◌++◌, map, length, take, None, Option, nat_lt, slice_set}
+use Rattle.std.specs.Prelude.{◌≡◌, ℕ, ◌<◌, ◌≤◌, List, [], ◌∷◌, ◌++◌, map, length, take, None, Option}
 use Rattle.isa.specs.Words.{nth}
 use Rattle.pins.specs.PortWords.{optional}
 use Rattle.rings.specs.declared.queue.Queue.{Queue}
 use Rattle.rings.specs.QueueRules.{queue_of}
-use Rattle.rings.specs.Places.{queue_oldest, queue_shifted}
+use Rattle.rings.specs.Places.{queue_pushed_if_room, queue_oldest, queue_shifted}
 use Rattle.window.specs.declared.entry.Number.{Number}
 use Rattle.window.specs.declared.entry.Tag.{Tag}
 use Rattle.window.specs.declared.entry.Tag.TheVariants.{Acknowledgment}
@@ -12,10 +12,6 @@ use Rattle.window.specs.Machine.{retag, retags, renumber, renumbers}
 use Rattle.window.specs.Rings.{rest}
 
 module _ {A : Type 0} {N : ℕ} where
-  -- one more, the newest; a full queue stays as it is
-  abbrev pub queue_pushed : Queue A N → A → Queue A N
-  queue_pushed q x = cond (nat_lt q.count N) (record { count = q.count + 1; at = slice_set q.at q.count x }) q
-
   -- each changed
   abbrev pub queue_by : (A → A) → Queue A N → Queue A N
   queue_by f q = record { count = q.count; at = map f q.at }
@@ -32,13 +28,13 @@ module _ {A : Type 0} {N : ℕ} where
 pub record QueueListLaws {A : Type 0} (N : ℕ) (d : A) : Type 0 where
   pub start : queued (queue_of {n = N} d) ≡ []
   pub count : (q : Queue A N) → SizedQueue q → length (queued q) ≡ q.count
-  pub push : (q : Queue A N) (x : A) → SizedQueue q → q.count < N → queued (queue_pushed q x) ≡ queued q ++ (x ∷ [])
+  pub push : (q : Queue A N) (x : A) → SizedQueue q → q.count < N → queued (queue_pushed_if_room q x) ≡ queued q ++ (x ∷ [])
   pub oldest : (q : Queue A N) → SizedQueue q → queue_oldest d q ≡ optional (nth (queued q) 0)
   pub pop : (q : Queue A N) → SizedQueue q → queued (queue_shifted q d) ≡ rest (queued q)
   pub by : (f : A → A) (q : Queue A N) → SizedQueue q → queued (queue_by f q) ≡ map f (queued q)
   -- sizes are kept
   pub start_sized : SizedQueue (queue_of {n = N} d)
-  pub push_sized : (q : Queue A N) (x : A) → SizedQueue q → SizedQueue (queue_pushed q x)
+  pub push_sized : (q : Queue A N) (x : A) → SizedQueue q → SizedQueue (queue_pushed_if_room q x)
   pub pop_sized : (q : Queue A N) → SizedQueue q → SizedQueue (queue_shifted q d)
   pub by_sized : (f : A → A) (q : Queue A N) → SizedQueue q → SizedQueue (queue_by f q)
 

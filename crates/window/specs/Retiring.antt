@@ -8,7 +8,7 @@ use Rattle.pins.specs.PortWords.{ret_of, request_of}
 use Rattle.pins.specs.declared.ports.Retired.{Retired}
 use Rattle.pins.specs.declared.ports.Request.{Request}
 use Rattle.pins.specs.declared.ports.Request.TheVariants.{Write}
-use Rattle.rings.specs.Places.{cut_to}
+use Rattle.rings.specs.Places.{pushed_if_room, popped_if_any, queue_pushed_if_room, cut_to}
 use Rattle.window.specs.declared.entry.Entry.{Entry}
 use Rattle.pins.specs.declared.held.Store.{Store}
 use Rattle.window.specs.declared.entry.Tag.TheVariants.{Acknowledgment}
@@ -19,8 +19,7 @@ use Rattle.window.specs.declared.datapath.Datapath.{Datapath}
 use Rattle.window.specs.Entries.{given}
 use Rattle.window.specs.Machine.{popped, kept, retire, drain}
 use Rattle.window.specs.Rings.{entry_at, StoreBuffer, buffer_entry}
-use Rattle.window.specs.Rings as rings
-use Rattle.window.specs.Queues.{queue_pushed, requests_by, fetches_by}
+use Rattle.window.specs.Queues.{requests_by, fetches_by}
 use Rattle.window.specs.Datapaths.{lists, SizedDatapath}
 
 -- the oldest leaves the window: in the queues each number is one less
@@ -42,7 +41,7 @@ stayed k b = record {
   pc = b;
   stores = k.stores;
   device = Idle;
-  window = rings.popped k.window;
+  window = popped_if_any k.window;
   requests = requests_by popped k.requests;
   fetches = fetches_by popped k.fetches;
 }
@@ -100,7 +99,7 @@ abbrev pub with_buffer : Datapath → StoreBuffer → Datapath
 with_buffer k b = record { regs = k.regs; pc = k.pc; stores = b; device = k.device; window = k.window; requests = k.requests; fetches = k.fetches }
 
 abbrev pub store_retired : Datapath → Entry → Store → Datapath
-store_retired k e p = cond (nat_lt k.stores.count 8) (moved_on (with_buffer k (rings.pushed k.stores p)) e.predicted (add k.pc 4)) k
+store_retired k e p = cond (nat_lt k.stores.count 8) (moved_on (with_buffer k (pushed_if_room k.stores p)) e.predicted (add k.pc 4)) k
 
 abbrev pub store_done : Datapath → Option Retired
 store_done k = cond (nat_lt k.stores.count 8) (Some (plain_done k)) None
@@ -128,7 +127,7 @@ done k = given (entry_at k.window 0) None (λ e. given e.outcome None (outcome_d
 -- a store goes out
 abbrev pub drained : Datapath → Datapath
 drained k = cond (nat_lt 0 k.stores.count)
-    (record { regs = k.regs; pc = k.pc; stores = rings.popped k.stores; device = k.device; window = k.window; requests = queue_pushed k.requests Acknowledgment; fetches = k.fetches })
+    (record { regs = k.regs; pc = k.pc; stores = popped_if_any k.stores; device = k.device; window = k.window; requests = queue_pushed_if_room k.requests Acknowledgment; fetches = k.fetches })
     k
 
 abbrev pub drain_request : Datapath → Option Request

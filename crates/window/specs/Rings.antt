@@ -1,5 +1,5 @@
 -- The window and the store buffer as rings: what the code does with them, and what that is to their lists.
-use Rattle.std.specs.Prelude.{◌≡◌, ℕ, zero, suc, ◌+◌, ◌-◌, ◌/◌, ◌%◌, ◌<◌, ◌≤◌, Bool, cond, ◌&&◌, List, [], ◌∷◌, ◌++◌, length, take, Some, None, Option, ◌==◌, nat_lt, slice_index_or, slice_set}
+use Rattle.std.specs.Prelude.{◌≡◌, ℕ, zero, suc, ◌-◌, ◌/◌, ◌%◌, ◌<◌, ◌≤◌, Bool, cond, ◌&&◌, List, [], ◌∷◌, ◌++◌, length, take, Some, None, Option, ◌==◌, nat_lt, slice_index_or}
 use Rattle.isa.specs.Words.{nth, put}
 use Rattle.isa.specs.Registers.{value_in}
 use Rattle.isa.specs.declared.execute.Outcome.{Outcome}
@@ -7,7 +7,7 @@ use Rattle.pins.specs.PortWords.{optional}
 use Rattle.rings.specs.Searches.{newest_below}
 use Rattle.rings.specs.declared.ring.Ring.{Ring}
 use Rattle.rings.specs.RingRules.{ring_of, slot}
-use Rattle.rings.specs.Places.{held, put_at, cut_to}
+use Rattle.rings.specs.Places.{pushed_if_room, popped_if_any, held, put_at, cut_to}
 use Rattle.window.specs.declared.entry.Entry.{Entry}
 use Rattle.pins.specs.declared.held.Store.{Store}
 use Rattle.window.specs.declared.entry.Source.{Source}
@@ -27,14 +27,6 @@ rest [] = []
 rest (x ∷ xs) = xs
 
 module _ {A : Type 0} {N : ℕ} where
-  -- one more, the newest; a full ring stays as it is
-  abbrev pub pushed : Ring A N → A → Ring A N
-  pushed w x = cond (nat_lt w.count N) (record { begin = w.begin; count = w.count + 1; at = slice_set w.at (slot w w.count) x }) w
-
-  -- without the oldest
-  abbrev pub popped : Ring A N → Ring A N
-  popped w = cond (nat_lt 0 w.count) (record { begin = (w.begin % N + 1) % N; count = w.count - 1; at = w.at }) w
-
   -- what stands in the slot of the n-th oldest
   abbrev pub element : A → Ring A N → ℕ → A
   element d w n = slice_index_or w.at (slot w n) d
@@ -51,20 +43,20 @@ module _ {A : Type 0} {N : ℕ} where
 pub record ListLaws {A : Type 0} (N : ℕ) (d : A) : Type 0 where
   pub start : listed d (ring_of {n = N} d) ≡ []
   pub count : (w : Ring A N) → length (listed d w) ≡ w.count
-  pub push : (w : Ring A N) (x : A) → Sized w → w.count < N → listed d (pushed w x) ≡ listed d w ++ (x ∷ [])
-  pub pop : (w : Ring A N) → listed d (popped w) ≡ rest (listed d w)
+  pub push : (w : Ring A N) (x : A) → Sized w → w.count < N → listed d (pushed_if_room w x) ≡ listed d w ++ (x ∷ [])
+  pub pop : (w : Ring A N) → listed d (popped_if_any w) ≡ rest (listed d w)
   pub cut : (w : Ring A N) (n : ℕ) → listed d (cut_to w n) ≡ take n (listed d w)
   pub put : (w : Ring A N) (n : ℕ) (x : A) → Sized w → listed d (put_at w n x) ≡ put (listed d w) n x
   pub get : (w : Ring A N) (n : ℕ) → held d w n ≡ optional (nth (listed d w) n)
   -- the oldest, and the others; none
-  pub oldest : (w : Ring A N) → 0 < w.count → listed d w ≡ element d w 0 ∷ listed d (popped w)
+  pub oldest : (w : Ring A N) → 0 < w.count → listed d w ≡ element d w 0 ∷ listed d (popped_if_any w)
   pub empty : (w : Ring A N) → w.count ≤ 0 → listed d w ≡ []
   -- the n-th changed, and the newer ones dropped
   pub redirect : (w : Ring A N) (n : ℕ) (x : A) → Sized w → n < w.count → listed d (cut_to (put_at w n x) (suc n)) ≡ take n (listed d w) ++ (x ∷ [])
   -- sizes are kept
   pub start_sized : Sized (ring_of {n = N} d)
-  pub push_sized : (w : Ring A N) (x : A) → Sized w → Sized (pushed w x)
-  pub pop_sized : (w : Ring A N) → Sized w → Sized (popped w)
+  pub push_sized : (w : Ring A N) (x : A) → Sized w → Sized (pushed_if_room w x)
+  pub pop_sized : (w : Ring A N) → Sized w → Sized (popped_if_any w)
   pub cut_sized : (w : Ring A N) (n : ℕ) → Sized w → Sized (cut_to w n)
   pub put_sized : (w : Ring A N) (n : ℕ) (x : A) → Sized w → Sized (put_at w n x)
 

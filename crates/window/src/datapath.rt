@@ -238,11 +238,7 @@ impl Datapath {
     {
         let number = Number(self.window.count);
         let pc = self.next_pc();
-        if !self.window.full() {
-            self.window.push(Entry::new(pc, predicted));
-        }
-        if !self.fetches.full() {
-            self.fetches.push(Some(number));
-        }
+        self.window.push_if_room(Entry::new(pc, predicted));
+        self.fetches.push_if_room(Some(number));
     }
 }

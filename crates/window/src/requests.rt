@@ -1,8 +1,6 @@
 // Requests for loads and devices, and whether the core has stopped: the machine's rules on the datapath.
 ghost use Rattle.std.specs.Prelude.{◌≡◌};
 ghost use Rattle.window.specs.Rings.{outcome_at};
-ghost use Rattle.window.specs.Queues.{queue_pushed};
-ghost use Rattle.window.specs.Datapaths.{with_tags};
 ghost use Rattle.window.specs.Asking.{memory_at, load_at, load_address, load_asked, read_of, free, device_at, device_address, device_asked, halt_at, halts};
 
 use crate::datapath::Datapath;
@@ -20,15 +18,6 @@ fn memory_at(address: u32, source: Source) -> Option<u32>
 }
 
 impl Datapath {
-    // One more open request; with four open none is added.
-    pub(crate) fn open(&mut self, tag: Tag)
-        ensures { self.new ≡ with_tags self.old (queue_pushed self.old.requests tag) }
-    {
-        if !self.requests.full() {
-            self.requests.push(tag);
-        }
-    }
-
     // The n-th instruction's outcome, once it has one.
     fn outcome(&self, n: u32) -> Option<Outcome>
         ensures { result ≡ outcome_at self.now.window n }
@@ -60,7 +49,7 @@ impl Datapath {
         ensures asks { result ≡ read_of (load_address self.old n) }
     {
         let address = self.load_address(n)?;
-        self.open(Tag::Load(Number(n)));
+        self.requests.push_if_room(Tag::Load(Number(n)));
         Some(Request::Read { address })
     }
 
@@ -93,7 +82,7 @@ impl Datapath {
     {
         let address = self.device_address()?;
         self.device = Reading::Waiting { address };
-        self.open(Tag::Device);
+        self.requests.push_if_room(Tag::Device);
         Some(Request::Read { address })
     }
 

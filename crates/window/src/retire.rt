@@ -24,9 +24,7 @@ impl Datapath {
     {
         if next == predicted {
             self.pop_numbers();
-            if self.window.count > 0 {
-                self.window.pop();
-            }
+            self.window.pop_if_any();
         } else {
             self.flush(0);
         }
@@ -117,7 +115,7 @@ impl Datapath {
         }
         let store = self.stores.entry(0);
         self.stores.pop();
-        self.open(Tag::Acknowledgment);
+        self.requests.push_if_room(Tag::Acknowledgment);
         Some(store.into())
     }
 }
