@@ -58,6 +58,7 @@ fn store_offset(x: u32) -> u32 {
     (x >> 5) << 25 | (x & 0x1f) << 7
 }
 
+// Apart from jump_offset: each format scatters its bits in an order of its own, which a table of shifts makes no plainer.
 fn branch_offset(x: u32) -> u32 {
     (x >> 31) << 31 | ((x >> 5) & 0x3f) << 25 | ((x >> 1) & 0xf) << 8 | ((x >> 11) & 1) << 7
 }

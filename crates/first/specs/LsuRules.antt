@@ -5,7 +5,7 @@ use Rattle.rings.specs.declared.queue.Queue.{Queue}
 use Rattle.pins.specs.declared.ports.Request.{Request}
 use Rattle.first.specs.declared.state.Open.{Open}
 use Rattle.first.specs.declared.state.Open.TheVariants.{Acknowledgment, Load as ForLoad}
-use Rattle.pins.specs.Held.{write_of, answered}
+use Rattle.pins.specs.Held.{write_of, with_answer}
 use Rattle.pins.specs.declared.held.Reading.{Reading}
 use Rattle.pins.specs.declared.held.Reading.TheVariants.{Idle, Waiting}
 use Rattle.first.specs.declared.state.Lsu.{Lsu}
@@ -32,7 +32,7 @@ lsu_start = record { stores = buffer_start; requests = open_start; load = Idle }
 
 -- an answer comes: to a store it says nothing, to the load it is the word
 abbrev pub load_answered : Reading → ℕ → Reading
-load_answered d x = answered x d
+load_answered d x = with_answer x d
 
 abbrev pub lsu_answered : Lsu → ℕ → Open → Lsu
 lsu_answered d x Acknowledgment = record { stores = d.stores; requests = open_pop d.requests; load = d.load }

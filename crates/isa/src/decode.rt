@@ -7,7 +7,8 @@ ghost use Rattle.isa.specs.Executing.{DecodesTo};
 use crate::fields::{funct3, funct7, imm_b, imm_i, imm_j, imm_s, imm_u, opcode, rd, rs1, rs2};
 use crate::instr::{AluOp, Cond, Instr, MulOp};
 
-// By field 3; `other` is the second form of addition and of the shift to the right.
+// By field 3; `other` is the second form of addition and of the shift to the right. It takes two fields and never fails, so
+// it is no conversion of a number.
 fn alu_op(f3: u32, other: bool) -> AluOp
     ensures { result ≡ alu_of f3 other }
 {

@@ -80,6 +80,7 @@ pub fn imm_s(word: u32) -> u32
     sign_extend(12, (word >> 25) << 5 | (word >> 7) & 0x1f)
 }
 
+// Apart from imm_j: each format scatters its bits in an order of its own, which a table of shifts makes no plainer.
 pub fn imm_b(word: u32) -> u32
     ensures { result ≡ imm_b word }
 {

@@ -9,10 +9,10 @@ use Rattle.pins.specs.declared.held.Reading.TheVariants.{Idle, Waiting, Answered
 abbrev pub write_of : Store → Request
 write_of s = Write s.address s.value
 
-abbrev pub answered : ℕ → Reading → Reading
-answered x Idle = Idle
-answered x (Waiting a) = Answered a x
-answered x (Answered a y) = Answered a y
+abbrev pub with_answer : ℕ → Reading → Reading
+with_answer x Idle = Idle
+with_answer x (Waiting a) = Answered a x
+with_answer x (Answered a y) = Answered a y
 
 abbrev pub answer_of : Reading → Option ℕ
 answer_of Idle = None

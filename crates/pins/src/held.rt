@@ -1,6 +1,6 @@
 // What a core keeps of a request to data memory or a device.
 ghost use Rattle.std.specs.Prelude.{◌≡◌};
-ghost use Rattle.pins.specs.Held.{write_of, answered, answer_of};
+ghost use Rattle.pins.specs.Held.{write_of, with_answer, answer_of};
 
 use crate::ports::Request;
 
@@ -31,7 +31,7 @@ pub enum Reading {
 impl Reading {
     // The answer comes.
     pub fn answered(self, word: u32) -> Reading
-        ensures { result ≡ answered word self }
+        ensures { result ≡ with_answer word self }
     {
         match self {
             Reading::Waiting { address } => Reading::Answered {

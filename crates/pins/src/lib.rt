@@ -10,14 +10,14 @@ ghost use Rattle.pins.specs.Cases.{Worked};
 // The words that a core is lent, at least.
 pub const CORE_WORDS: usize = 65_536;
 
-// A core was started, or its words are too few.
+// A core was started, or its words are too few. An enum and no Result: the promise of the call names these answers.
 #[derive(Clone, Copy, PartialEq, Eq)]
 pub enum Started {
     Ready,
     Few,
 }
 
-// A clock went by; or the words are no core; or the ports' words are not four and twenty.
+// A clock went by; or the words are no core; or the ports' words are not four and twenty. An enum like Started.
 #[derive(Clone, Copy, PartialEq, Eq)]
 pub enum Clocked {
     Done,

@@ -27,7 +27,7 @@ pub struct Retired {
     pub value: u32,
 }
 
-// The instructions done in a clock, up to four, oldest first.
+// The instructions done in a clock, up to four, oldest first. An array and a count, since there is no heap at the ports.
 #[derive(Clone, Copy, PartialEq, Eq)]
 pub struct Done {
     pub count: u32,
@@ -106,6 +106,7 @@ impl Done {
     }
 }
 
+// A flag and a word, as C reads them at the ports.
 fn flag_words(word: Option<u32>) -> (u32, u32)
     ensures { (result.0 ≡ flag_of word) × (result.1 ≡ word_of word) }
 {

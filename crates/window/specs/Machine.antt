@@ -12,7 +12,7 @@ use Rattle.window.specs.declared.entry.Number.{Number}
 use Rattle.window.specs.declared.entry.Tag.{Tag}
 use Rattle.window.specs.declared.entry.Tag.TheVariants.{Acknowledgment, Load, Stale, Device}
 use Rattle.pins.specs.declared.held.Store.{Store}
-use Rattle.pins.specs.Held.{answered}
+use Rattle.pins.specs.Held.{with_answer}
 use Rattle.pins.specs.declared.held.Reading.{Reading}
 use Rattle.pins.specs.declared.held.Reading.TheVariants.{Idle, Waiting, Answered}
 use Rattle.window.specs.declared.entry.Source.{Source}
@@ -305,7 +305,7 @@ ask_device k = device_oldest k k.window
 
 -- an answer to a request; one that nobody waits for is ignored
 abbrev pub device_answered : ℕ → Reading → Reading
-device_answered x d = answered x d
+device_answered x d = with_answer x d
 
 abbrev pub get_data : ℕ → Core → ℕ → Entry → Option Entry
 get_data x k n e = Some (with_loaded e x)
