@@ -8,7 +8,6 @@ use pins::ports::Retired;
 use reference::memory::Memory;
 use reference::trace::Effect;
 use std::alloc::Global;
-use testbench::effects::effect_of;
 use testbench::failure::Failure;
 use testbench::runner;
 use testbench::session::Clock;
@@ -45,10 +44,10 @@ impl End {
         for retired in clock.done() {
             self.write_register(*retired);
         }
-        match clock.outputs.request.and_then(effect_of) {
-            Some(effect) => self.add_effect(effect),
-            None => Ok(()),
+        if let Some(effect) = clock.effect() {
+            self.add_effect(effect)?;
         }
+        Ok(())
     }
 
     fn write_register(&mut self, retired: Retired) {

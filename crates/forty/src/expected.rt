@@ -53,23 +53,24 @@ fn one_expected(text: &str) -> Option<Expected> {
     let mut words = text.split_whitespace();
     let kind = words.next()?;
     let what = words.next()?;
+    let value = words.next().and_then(|word| number(word).ok());
     match kind {
         "reg" => Some(Expected::Register {
             reg: register(what)?,
-            value: number(words.next()?).ok()?,
+            value: value?,
         }),
         "word" => Some(Expected::Word {
             address: number(what).ok()?,
-            value: number(words.next()?).ok()?,
+            value: value?,
         }),
         "write" => Some(Expected::Device(Effect::Write {
             address: number(what).ok()?,
-            value: number(words.next()?).ok()?,
+            value: value?,
         })),
         "ask" => Some(Expected::Device(Effect::Ask {
             address: number(what).ok()?,
         })),
-        "stop" => Some(Expected::Stop(stop_named(what)?)),
+        "stop" => stop_named(what).map(Expected::Stop),
         _ => None,
     }
 }

@@ -1,5 +1,5 @@
 // The options of a program, from the words after its name.
-ghost use Rattle.std.specs.Prelude.{◌≡◌, ◌+◌, ◌≤◌, ◌↔◌, [], ◌∷◌, length, map, string_bytes, Some, Ok, IsNone, IsErr, IfSome, IfOk};
+ghost use Rattle.std.specs.Prelude.{◌≡◌, ◌+◌, ◌≤◌, ◌↔◌, [], ◌∷◌, length, map, string_bytes, Some, Ok, IsNone, IsErr, IfSome, IfOk, OnOk};
 
 use crate::args::Value;
 use crate::failure::Failure;
@@ -17,7 +17,6 @@ impl<'a> Words<'a> {
     pub fn next(&mut self) -> Option<&'a str>
         ensures end { IsNone result ↔ (self.old.rest.now ≡ []) }
         ensures first { IfSome result (λ word. map string_bytes self.old.rest.now ≡ word.now ∷ map string_bytes self.new.rest.now) }
-        ensures fewer { length self.new.rest.now ≤ length self.old.rest.now }
     {
         let (word, rest) = self.rest.split_first()?;
         self.rest = rest;
@@ -28,20 +27,19 @@ impl<'a> Words<'a> {
     pub fn value(&mut self, option: &'a str) -> Result<Value<'a>, Failure>
         ensures missing { IsErr result ↔ (self.old.rest.now ≡ []) }
         ensures first { IfOk result (λ v. map string_bytes self.old.rest.now ≡ v.text.now ∷ map string_bytes self.new.rest.now) }
-        ensures fewer { length self.new.rest.now ≤ length self.old.rest.now }
+        ensures taken { IfOk result (λ _. length self.old.rest.now ≡ length self.new.rest.now + 1) }
     {
         let heap = self.heap;
-        match self.next() {
-            Some(text) => Ok(Value { heap, option, text }),
-            None => Err(Failure::Input(format!(in heap; "{option}: no value")?)),
-        }
+        let Some(text) = self.next() else {
+            return Err(Failure::Input(format!(in heap; "{option}: no value")?));
+        };
+        Ok(Value { heap, option, text })
     }
 
     // A value that is a number.
     pub fn number(&mut self, option: &'a str) -> Result<u32, Failure>
         ensures missing { self.old.rest.now ≡ [] → IsErr result }
         ensures taken { IfOk result (λ _. length self.old.rest.now ≡ length self.new.rest.now + 1) }
-        ensures fewer { length self.new.rest.now ≤ length self.old.rest.now }
     {
         self.value(option)?.number()
     }
@@ -51,7 +49,7 @@ impl<'a> Words<'a> {
 pub trait FromWords: Drop {
     // An option. Its value, where it takes one, is the next of the words.
     fn option<'a>(&mut self, name: &'a str, words: &mut Words<'a>) -> Result<(), Failure>
-        ensures { length words.new.rest.now ≤ length words.old.rest.now };
+        ensures { OnOk result (length words.new.rest.now ≤ length words.old.rest.now) };
 
     // A word that is no option.
     fn operand(&mut self, heap: Global, word: &str) -> Result<(), Failure>;

@@ -2,7 +2,6 @@
 use pins::ports::Retired;
 use reference::trace::Effect;
 use std::alloc::Global;
-use testbench::effects::effect_of;
 use testbench::failure::Failure;
 use testbench::runner;
 use testbench::session::Clock;
@@ -36,7 +35,7 @@ impl Record {
 
     fn add(&mut self, clock: &Clock) -> Result<(), Failure> {
         self.done.extend_from_slice(clock.done())?;
-        if let Some(effect) = clock.outputs.request.and_then(effect_of) {
+        if let Some(effect) = clock.effect() {
             self.effects.push(effect)?;
         }
         self.idle = if clock.done().is_empty() {
