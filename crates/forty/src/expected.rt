@@ -20,6 +20,7 @@ pub enum Expected {
 }
 
 impl Expected {
+    // What is expected of devices, and below how it stops: one arm each, of another variant.
     pub fn device(self) -> Option<Effect> {
         match self {
             Expected::Device(effect) => Some(effect),

@@ -20,7 +20,7 @@ impl From<Store> for Request {
     }
 }
 
-// A word that is read: not requested; requested; answered.
+// A word that is read: not requested; requested; answered. Three states, which an Option of an Option would hide.
 #[derive(Clone, Copy, PartialEq, Eq)]
 pub enum Reading {
     Idle,

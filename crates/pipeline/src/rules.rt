@@ -9,7 +9,7 @@ use pins::ports::{Done, Inputs, Outputs, Request, Retired};
 use window::datapath::Datapath;
 use window::entry::Entry;
 
-// The word of code that came, and the answer to a request.
+// The word of code that came, and the answer to a request: two ports, with a line for each.
 fn take_code(path: &mut Datapath, code: Option<u32>)
     ensures { path.new ≡ code_in path.old code }
 {

@@ -70,6 +70,7 @@ fn check(rt: &HostRuntime, case: &Case) -> anyhow::Result<()> {
 pub fn check_all(rt: &HostRuntime) -> anyhow::Result<()> {
     let text = fs::read_to_string(rt, "cases.txt")?;
     let mut name = "";
+    // Counted in the loop, as each case is checked and may print.
     let mut count = 0u32;
     for line in text.as_str().lines() {
         let case = parse(line)?;

@@ -10,6 +10,7 @@ use waves::commit::CommitLog;
 use waves::sample::Sample;
 use waves::vcd::{Dump, Header, Time};
 
+// Apart from LogFile: of what either does only the field `file` is the same.
 #[derive(Drop)]
 struct WaveFile {
     file: BufWriter<File>,
@@ -46,6 +47,7 @@ impl WaveFile {
     }
 }
 
+// Here, since testbench knows no core, and waves no session.
 fn core(session: &Session) -> Result<Core, Failure> {
     Core::load(session.core()).ok_or(Failure::NoCore)
 }

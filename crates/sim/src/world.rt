@@ -27,7 +27,7 @@ pub struct World {
 }
 
 impl World {
-    // Before the first clock.
+    // Before the first clock. Called once, so that a struct for what it takes would be the world itself.
     pub fn new(
         heap: Global,
         code: Memory,

@@ -32,7 +32,7 @@ impl<'a> Value<'a> {
         Ok(())
     }
 
-    // `ADDRESS=WORD,..`, added to a list.
+    // `ADDRESS=WORD,..`, added to a list. What a part is differs, so that a loop for both would be no shorter.
     pub fn placed(self, list: &mut Vec<Placed>) -> Result<(), Failure>
         ensures aligned { All (λ (p : Placed). p.address % 4 ≡ 0) list.old.items → All (λ (p : Placed). p.address % 4 ≡ 0) list.new.items }
     {

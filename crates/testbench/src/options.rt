@@ -61,6 +61,7 @@ pub fn read<T: FromWords>(heap: Global, mut set: T, words: &[String]) -> Result<
 {
     let mut left = Words { heap, rest: words };
     let mut help = false;
+    // No `for`: an option takes the next word too.
     while let Some(word) = left.next() {
         if word == "--help" {
             help = true;

@@ -7,6 +7,7 @@ mod history;
 use std::process::ExitCode;
 use testbench::failure::exit_code;
 
+// As in the other programs, but for its name.
 fn main(rt: HostRuntime) -> ExitCode {
     let result = cases::show_all(&rt);
     exit_code(&rt, "testbench_tests", result)

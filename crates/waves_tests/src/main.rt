@@ -27,6 +27,7 @@ fn session(rt: &HostRuntime, program: &Program) -> Result<Session, Failure> {
     setup.session(rt.alloc())
 }
 
+// Here, since testbench knows no core, and waves no session.
 fn core(session: &Session) -> Result<Core, Failure> {
     Core::load(session.core()).ok_or(Failure::NoCore)
 }
@@ -69,6 +70,7 @@ fn show(rt: &HostRuntime) -> Result<(), Failure> {
     show_waves(rt, &program)
 }
 
+// As in the other programs, but for its name.
 fn main(rt: HostRuntime) -> ExitCode {
     let result = show(&rt);
     exit_code(&rt, "waves_tests", result)

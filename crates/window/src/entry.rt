@@ -28,7 +28,8 @@ pub enum Tag {
     Device,
 }
 
-// Where a load finds its word: not known yet, since an older store may be to it; in memory; with a store before it.
+// Where a load finds its word: not known yet, since an older store may be to it; in memory; with a store before it. Three
+// states, which an Option of an Option would hide.
 #[derive(Clone, Copy, PartialEq, Eq)]
 pub enum Source {
     Unknown,

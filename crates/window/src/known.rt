@@ -123,6 +123,7 @@ impl Entry {
         }
     }
 
+    // With its word; and below with what else it learns: an update and a definition for each field.
     pub fn with_word(self, x: u32) -> Entry
         ensures { result ≡ with_word self x }
     {

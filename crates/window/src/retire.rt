@@ -53,6 +53,7 @@ impl Datapath {
         shown
     }
 
+    // No register is written: retire_write at x0 would write x0's place.
     fn retire_plain(&mut self, e: Entry, next: u32) -> Retired
         ensures core { self.new ≡ moved_on self.old e.predicted next }
         ensures shows { result ≡ plain_done self.old }

@@ -15,6 +15,7 @@ fn run(rt: &HostRuntime) -> Result<(), Failure> {
     refusals::show(rt)
 }
 
+// As in the other programs, but for its name.
 fn main(rt: HostRuntime) -> ExitCode {
     let result = run(&rt);
     exit_code(&rt, "worked", result)

@@ -28,6 +28,7 @@ fn show_line(rt: &HostRuntime, what: &str, refused: bool) -> Result<(), Failure>
     Ok(())
 }
 
+// Whether it is refused, which is what is shown; an error is want of memory.
 fn few_words(heap: Global) -> Result<bool, AllocError> {
     let mut core = vec![in heap; 7u32; CORE_WORDS - 1]?;
     let before = core.clone()?;
@@ -35,6 +36,7 @@ fn few_words(heap: Global) -> Result<bool, AllocError> {
     Ok(few && core == before)
 }
 
+// The same of port words that are not four and twenty.
 fn no_ports(heap: Global, ins: usize, outs: usize) -> Result<bool, AllocError> {
     let mut core = vec![in heap; 0u32; CORE_WORDS]?;
     let ready = ahead::start(0, &mut core) == Started::Ready;
@@ -46,6 +48,7 @@ fn no_ports(heap: Global, ins: usize, outs: usize) -> Result<bool, AllocError> {
     Ok(ready && refused && core == before && outs == outs_before)
 }
 
+// The same of words that are no core.
 fn no_core(heap: Global, words: usize) -> Result<bool, AllocError> {
     let mut core = vec![in heap; 7u32; words]?;
     let before = core.clone()?;
