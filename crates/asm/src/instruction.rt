@@ -38,7 +38,7 @@ pub fn branch(cond: Cond, rs1: Reg, rs2: Reg, offset: u32, place: usize) -> Resu
 }
 
 impl Located<'_, '_> {
-    // The word of a statement whose name is the mnemonic.
+    // The word of a statement whose name is the mnemonic. A match, as each kind holds what its word needs.
     pub fn instruction(self, m: Mnemonic) -> Result<u32, Fault> {
         match m {
             Mnemonic::Lui => {

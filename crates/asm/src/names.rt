@@ -13,6 +13,7 @@ pub const ZERO: Reg = Reg { number: 0 };
 
 pub const RA: Reg = Reg { number: 1 };
 
+// Constant, so that no memory is needed to look up a name.
 static REGISTERS: [&str; 32] = [
     "zero", "ra", "sp", "gp", "tp", "t0", "t1", "t2", "s0", "s1", "a0", "a1", "a2", "a3", "a4",
     "a5", "a6", "a7", "s2", "s3", "s4", "s5", "s6", "s7", "s8", "s9", "s10", "s11", "t3", "t4",
@@ -65,6 +66,7 @@ pub enum Mnemonic {
     Ecall,
 }
 
+// Constant, as the registers' names.
 static MNEMONICS: [(&str, Mnemonic); 36] = [
     ("lui", Mnemonic::Lui),
     ("auipc", Mnemonic::Auipc),

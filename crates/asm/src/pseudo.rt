@@ -37,6 +37,7 @@ pub enum Pseudo {
     Swapped(Cond),
 }
 
+// Constant, so that no memory is needed to look up a name.
 static PSEUDOS: [(&str, Pseudo); 24] = [
     ("nop", Pseudo::Nop),
     ("ret", Pseudo::Ret),
@@ -135,7 +136,7 @@ fn add_imm(rd: Reg, rs1: Reg, imm: u32) -> Result<u32, Fault>
 }
 
 impl Located<'_, '_> {
-    // The words of a statement whose name is the pseudo-instruction.
+    // The words of a statement whose name is the pseudo-instruction. A match, as each kind holds what its words need.
     pub fn pseudo_words(self, p: Pseudo) -> Result<Words, Fault> {
         let s = self.statement;
         let first = match p {

@@ -43,6 +43,8 @@ pub struct Outputs {
     pub done: Done,
 }
 
+// The ports' words are flags, kinds and codes, as C and the drawing have them: here and below they are taken for what they
+// mean, and back.
 fn given(flag: u32, word: u32) -> Option<u32>
     ensures { result ≡ optional (flagged flag word) }
 {

@@ -9,7 +9,7 @@ use window::datapath::Datapath;
 use window::entry::{Entry, Number, Tag};
 use window::queues::Requests;
 
-// Reading registers, executing, memory.
+// Reading registers, executing, memory: an enum, as the definitions name the three.
 #[derive(Clone, Copy)]
 pub enum Stage {
     Read,

@@ -1,5 +1,5 @@
 // What a run did: its traces, what it did to the outside, and how it ended.
-ghost use Rattle.std.specs.Prelude.{◌≡◌, [], ◌∷◌, ◌++◌, Some, None, OnOk};
+ghost use Rattle.std.specs.Prelude.{◌≡◌, [], ◌∷◌, ◌++◌, None, OnOk};
 ghost use Rattle.pins.specs.PortWords.{ret_of};
 ghost use Rattle.reference.specs.Machine.{events_of};
 ghost use Rattle.reference.specs.History.{rets_of, evs_of};
@@ -43,14 +43,11 @@ impl History {
     }
 
     // The same, ended so.
-    pub(crate) fn ended(self, halt: Halt) -> History
+    pub(crate) fn ended(self, end: Option<Halt>) -> History
         ensures traces { rets_of result ≡ rets_of self }
         ensures effects { evs_of result ≡ evs_of self }
-        ensures end { result.end ≡ Some halt }
+        ensures end { result.end ≡ end }
     {
-        History {
-            end: Some(halt),
-            ..self
-        }
+        History { end, ..self }
     }
 }

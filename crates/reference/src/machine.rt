@@ -155,7 +155,7 @@ impl Machine {
         for _ in 0..count {
             match self.step(code, answers)? {
                 Ok(done) => history.push(done.trace, done.effect)?,
-                Err(halt) => return Ok(history.ended(halt)),
+                Err(halt) => return Ok(history.ended(Some(halt))),
             }
         }
         Ok(history)

@@ -32,6 +32,7 @@ fn parse(line: &str) -> anyhow::Result<Case<'_>> {
     })
 }
 
+// Display can't be written on a type of another crate.
 #[derive(Drop)]
 struct Shown(Outcome);
 

@@ -1,4 +1,4 @@
-// A queue of N places: the oldest stands in front, and `count` are held.
+// A queue of N places: the oldest stands in front, and `count` are held. An array, since a core has no heap.
 ghost use Rattle.std.specs.Prelude.{◌≡◌, ℕ, ◌<◌, Some, length, slice_get};
 ghost use Rattle.rings.specs.QueueRules.{queue_of, queue_pushed, queue_popped};
 

@@ -1,4 +1,4 @@
-// A ring of N places: the oldest stands at `begin`, and `count` are held.
+// A ring of N places: the oldest stands at `begin`, and `count` are held. An array, since a core has no heap.
 ghost use Rattle.std.specs.Prelude.{◌≡◌, ℕ, ◌<◌, ◌≤◌, ◌^◌, Some, slice_get};
 ghost use Rattle.rings.specs.RingRules.{ring_of, slot, pushed, popped};
 

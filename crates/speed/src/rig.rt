@@ -7,6 +7,7 @@ use std::alloc::{AllocError, Global};
 // addi x1, x1, 1; addi x2, x2, 2; add x3, x2, x1; jal x0, -12
 const LOOP: [u32; 4] = [0x0010_8093, 0x0021_0113, 0x0011_01b3, 0xff5f_f06f];
 
+// The words are arrays, as C lends them.
 #[derive(Drop)]
 pub struct Rig {
     core: Vec<u32>,

@@ -258,7 +258,8 @@ impl Generator {
         })
     }
 
-    // Now and then a word that is no instruction, an address that is misaligned, or an address from a register.
+    // Now and then a word that is no instruction, an address that is misaligned, or an address from a register. The ranges say
+    // how often, as in add_random.
     fn add_odd(&mut self) -> Result<(), AllocError> {
         let rd = self.register();
         let rs1 = self.register();

@@ -72,7 +72,7 @@ const TOTAL: Effect = Effect::Write {
 };
 
 impl Case {
-    // Whether the fact holds of a run with answers within `most` clocks.
+    // Whether the fact holds of a run with answers within `most` clocks: a match, as each is about a program of its own.
     pub fn holds(self, program: &Program, record: &Record, most: u32) -> bool {
         match self {
             Case::Loop => loop_holds(program, record),
