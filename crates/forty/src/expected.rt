@@ -21,14 +21,14 @@ pub enum Expected {
 
 impl Expected {
     // What is expected of devices, and below how it stops: one arm each, of another variant.
-    pub fn device(self) -> Option<Effect> {
+    pub(crate) fn device(self) -> Option<Effect> {
         match self {
             Expected::Device(effect) => Some(effect),
             _ => None,
         }
     }
 
-    pub fn stop(self) -> Option<Stop> {
+    pub(crate) fn stop(self) -> Option<Stop> {
         match self {
             Expected::Stop(how) => Some(how),
             _ => None,

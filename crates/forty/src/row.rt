@@ -39,7 +39,7 @@ impl Row {
         })
     }
 
-    pub fn right(&self) -> bool {
+    pub(crate) fn right(&self) -> bool {
         self.shown.iter().all(|run| run.right) && self.random.right
     }
 
@@ -48,7 +48,7 @@ impl Row {
         let shown = self.shown.map(|run| run.summary);
         let instructions = shown[0].instructions;
         let [now, one, seven] = shown.map(|run| run.clocks);
-        let [each_now, each_one, each_seven] = shown.try_map(|run| Ratio::of(&run).to_string(
+        let [each_now, each_one, each_seven] = shown.try_map(|run| Ratio::from(&run).to_string(
             heap,
         ))?;
         let verdict = if self.right() { "ok" } else { "FAILED" };

@@ -27,7 +27,7 @@ impl WaveFile {
         Ok(WaveFile {
             file,
             dump: Dump::new(),
-            core: core(session)?,
+            core: Core::load(session.core()).ok_or(Failure::NoCore)?,
         })
     }
 
@@ -35,7 +35,7 @@ impl WaveFile {
         let sample = Sample::new(&self.core, &clock.inputs, &clock.outputs);
         let changes = self.dump.clock(clock.number, sample);
         write!(self.file, "{changes}")?;
-        self.core = core(session)?;
+        self.core = Core::load(session.core()).ok_or(Failure::NoCore)?;
         Ok(())
     }
 
@@ -45,11 +45,6 @@ impl WaveFile {
         writeln!(self.file, "{end}")?;
         self.file.flush()
     }
-}
-
-// Here, since testbench knows no core, and waves no session.
-fn core(session: &Session) -> Result<Core, Failure> {
-    Core::load(session.core()).ok_or(Failure::NoCore)
 }
 
 #[derive(Drop)]
@@ -99,7 +94,7 @@ impl Recorder {
     }
 
     // A clock, and the session after it.
-    pub fn add(&mut self, session: &Session, clock: &Clock) -> Result<(), Failure> {
+    pub(crate) fn add(&mut self, session: &Session, clock: &Clock) -> Result<(), Failure> {
         if let Some(waves) = &mut self.waves {
             waves.add(session, clock)?;
         }

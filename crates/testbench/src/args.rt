@@ -1,5 +1,5 @@
 // Values of options.
-ghost use Rattle.std.specs.Prelude.{◌≡◌, ◌%◌, All, IfOk};
+ghost use Rattle.std.specs.Prelude.{◌≡◌, ◌%◌, All, IfOk, string_bytes};
 
 use crate::failure::Failure;
 use asm::program::Placed;
@@ -15,7 +15,9 @@ pub struct Value<'a> {
 }
 
 impl<'a> Value<'a> {
-    pub fn string(self) -> Result<String, AllocError> {
+    pub fn string(self) -> Result<String, AllocError>
+        ensures { IfOk result (λ s. string_bytes s ≡ self.entry.text.now) }
+    {
         String::from_str(self.heap, self.text)
     }
 
@@ -32,7 +34,7 @@ impl<'a> Value<'a> {
         Ok(())
     }
 
-    // `ADDRESS=WORD,..`, added to a list. What a part is differs, so that a loop for both would be no shorter.
+    // `ADDRESS=WORD,..`, added to a list. Its loop stands apart: with a closure, `aligned` for any predicate was tried and not admitted.
     pub fn placed(self, list: &mut Vec<Placed>) -> Result<(), Failure>
         ensures aligned { All (λ (p : Placed). p.address % 4 ≡ 0) list.old.items → All (λ (p : Placed). p.address % 4 ≡ 0) list.new.items }
     {

@@ -1,4 +1,7 @@
 // How a core can differ from the manual.
+ghost use Rattle.std.specs.Prelude.{◌≡◌, Ok};
+ghost use Rattle.testbench.specs.declared.mismatch.CheckError.TheVariants.{Differs};
+
 use crate::failure::Failure;
 use crate::lines::Shown;
 use isa::execute::Stop;
@@ -69,4 +72,18 @@ pub enum CheckError {
     Differs(#[from] Mismatch),
     #[error("out of memory")]
     NoMemory(#[from(alloc)] AllocError),
+}
+
+// What differs; want of memory is handed back.
+impl TryFrom<CheckError> for Mismatch {
+    type Error = AllocError;
+
+    ghost try_from_gives = { λ e r. (m : _) → e ≡ Differs m → r ≡ Ok m };
+
+    fn try_from(error: CheckError) -> Result<Mismatch, AllocError> {
+        match error {
+            CheckError::Differs(mismatch) => Ok(mismatch),
+            CheckError::NoMemory(e) => Err(e),
+        }
+    }
 }

@@ -10,17 +10,18 @@ pub struct Ratio {
     pub instructions: u64,
 }
 
-impl Ratio {
-    pub fn of(summary: &Summary) -> Ratio
-        ensures clocks { result.clocks ≡ summary.now.clocks }
-        ensures instructions { result.instructions ≡ summary.now.instructions }
-    {
+impl From<&Summary> for Ratio {
+    ghost from_gives = { λ summary ratio. (ratio.clocks ≡ summary.now.clocks) × (ratio.instructions ≡ summary.now.instructions) };
+
+    fn from(summary: &Summary) -> Ratio {
         Ratio {
             clocks: summary.clocks,
             instructions: summary.instructions,
         }
     }
+}
 
+impl Ratio {
     // In hundredths, rounded; none where no instruction is done.
     pub fn hundredths(self) -> Option<u64>
         ensures none { IsNone result ↔ (self.instructions ≡ 0) }

@@ -43,7 +43,7 @@ impl fmt::Display for Summary {
         let instructions = self.instructions;
         write!(f, "{clocks} clocks, {instructions} instructions")?;
         if instructions > 0 {
-            let ratio = Ratio::of(self);
+            let ratio = Ratio::from(self);
             write!(f, ", {ratio} clocks per instruction")?;
         }
         Ok(())

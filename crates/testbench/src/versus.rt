@@ -1,7 +1,7 @@
 // The core and the manual side by side.
 use crate::checker::Checker;
 use crate::failure::Failure;
-use crate::mismatch::{CheckError, Mismatch};
+use crate::mismatch::Mismatch;
 use crate::session::{Clock, Session};
 use crate::setup::Setup;
 use crate::summary::Summary;
@@ -48,7 +48,6 @@ fn clock(session: &mut Session, checker: &mut Checker) -> Result<Result<Clock, M
     };
     match checker.check(&session.world.told, &clock) {
         Ok(()) => Ok(Ok(clock)),
-        Err(CheckError::Differs(mismatch)) => Ok(Err(mismatch)),
-        Err(CheckError::NoMemory(e)) => Err(e.into()),
+        Err(error) => Ok(Err(Mismatch::try_from(error)?)),
     }
 }

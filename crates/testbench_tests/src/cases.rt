@@ -1,5 +1,6 @@
 // One history for each thing that a core must not do.
 use crate::history::{History, IDLE, done, read, stop, want, write};
+use isa::devices::DEVICES;
 use isa::execute::Stop;
 use std::alloc::AllocError;
 use testbench::failure::Failure;
@@ -16,8 +17,6 @@ const STORING: &str = "
 here:   sw      zero, 12(zero)
         j       here
 ";
-
-const DEVICE: u32 = 0x8000_0000;
 
 fn show(rt: &HostRuntime, name: &str, history: History) -> Result<(), Failure> {
     match history.judge(rt.alloc())? {
@@ -43,12 +42,12 @@ fn asking(rt: &HostRuntime) -> History<'static> {
 
 // The first two instructions, as they should be.
 fn begun(rt: &HostRuntime) -> Result<History<'static>, AllocError> {
-    asking(rt).then(&[IDLE, done(0, 7, DEVICE), done(4, 0, 0), write(8, DEVICE)])
+    asking(rt).then(&[IDLE, done(0, 7, DEVICES), done(4, 0, 0), write(8, DEVICES)])
 }
 
 // All four.
 fn finished(rt: &HostRuntime) -> Result<History<'static>, AllocError> {
-    let asked = begun(rt)?.then(&[read(DEVICE + 4), IDLE])?;
+    let asked = begun(rt)?.then(&[read(DEVICES + 4), IDLE])?;
     asked.answered().then(&[done(8, 6, 99)])
 }
 
@@ -60,31 +59,31 @@ fn show_right(rt: &HostRuntime) -> Result<(), Failure> {
 fn show_done(rt: &HostRuntime) -> Result<(), Failure> {
     let wrong = asking(rt).then(&[done(0, 7, 0)])?;
     show(rt, "a wrong value", wrong)?;
-    let other = asking(rt).then(&[done(0, 8, DEVICE)])?;
+    let other = asking(rt).then(&[done(0, 8, DEVICES)])?;
     show(rt, "another register", other)?;
     let left_out = asking(rt).then(&[done(4, 0, 0)])?;
     show(rt, "an instruction left out", left_out)?;
-    let unanswered = begun(rt)?.then(&[read(DEVICE + 4), done(8, 6, 99)])?;
+    let unanswered = begun(rt)?.then(&[read(DEVICES + 4), done(8, 6, 99)])?;
     show(rt, "no answer", unanswered)?;
     let further = finished(rt)?.then(&[done(12, 0, 0)])?;
     show(rt, "past the end", further)
 }
 
 fn show_requests(rt: &HostRuntime) -> Result<(), Failure> {
-    let other = asking(rt).then(&[done(0, 7, DEVICE), done(4, 0, 0), write(8, 1)])?;
+    let other = asking(rt).then(&[done(0, 7, DEVICES), done(4, 0, 0), write(8, 1)])?;
     show(rt, "another write", other)?;
-    let twice = begun(rt)?.then(&[write(8, DEVICE)])?;
+    let twice = begun(rt)?.then(&[write(8, DEVICES)])?;
     show(rt, "a write twice", twice)?;
-    let asked_twice = begun(rt)?.then(&[read(DEVICE + 4); 2])?;
+    let asked_twice = begun(rt)?.then(&[read(DEVICES + 4); 2])?;
     show(rt, "a device asked twice", asked_twice)
 }
 
 fn show_order(rt: &HostRuntime) -> Result<(), Failure> {
-    let early = asking(rt).then(&[write(8, DEVICE)])?;
+    let early = asking(rt).then(&[write(8, DEVICES)])?;
     show(rt, "a write too early", early)?;
-    let next = asking(rt).then(&[done(0, 7, DEVICE), write(8, DEVICE), done(4, 0, 0)])?;
+    let next = asking(rt).then(&[done(0, 7, DEVICES), write(8, DEVICES), done(4, 0, 0)])?;
     show(rt, "the next instruction's write", next)?;
-    let overtaking = asking(rt).then(&[done(0, 7, DEVICE), done(4, 0, 0), read(DEVICE + 4)])?;
+    let overtaking = asking(rt).then(&[done(0, 7, DEVICES), done(4, 0, 0), read(DEVICES + 4)])?;
     show(rt, "a device asked before a write", overtaking)?;
     let mut behind = History::new(rt.alloc(), STORING).then(&[done(0, 0, 0)])?;
     for _ in 0..8 {
@@ -111,7 +110,7 @@ fn show_open(rt: &HostRuntime) -> Result<(), Failure> {
 }
 
 fn show_time(rt: &HostRuntime) -> Result<(), Failure> {
-    let patient = asking(rt).then(&[IDLE; 63])?.then(&[done(0, 7, DEVICE)])?;
+    let patient = asking(rt).then(&[IDLE; 63])?.then(&[done(0, 7, DEVICES)])?;
     show(rt, "nothing done in 63 clocks", patient)?;
     let idle = asking(rt).then(&[IDLE; 64])?;
     show(rt, "nothing done in 64 clocks", idle)?;

@@ -6,7 +6,7 @@ use sim::delay::Delay;
 use sim::devices::Rest;
 use std::alloc::{AllocError, Global};
 use testbench::failure::Failure;
-use testbench::mismatch::CheckError;
+use testbench::mismatch::Mismatch;
 use testbench::session::Clock;
 use testbench::setup::Setup;
 use testbench::versus::Difference;
@@ -79,13 +79,13 @@ impl<'a> History<'a> {
     }
 
     // With these clocks more.
-    pub fn then(mut self, outputs: &[Outputs]) -> Result<History<'a>, AllocError> {
+    pub(crate) fn then(mut self, outputs: &[Outputs]) -> Result<History<'a>, AllocError> {
         self.clocks.extend_from_slice(outputs)?;
         Ok(self)
     }
 
     // The device answers in the clock that comes next.
-    pub fn answered(mut self) -> History<'a> {
+    pub(crate) fn answered(mut self) -> History<'a> {
         self.answered = Some(self.clocks.len());
         self
     }
@@ -104,13 +104,11 @@ impl<'a> History<'a> {
         let mut checker = setup.checker(heap)?;
         for (i, outputs) in self.clocks.iter().enumerate() {
             let clock = clock(i as u64, *outputs);
-            match checker.check(self.told(i), &clock) {
-                Ok(()) => {}
-                Err(CheckError::Differs(mismatch)) => return Ok(Err(Difference {
+            if let Err(error) = checker.check(self.told(i), &clock) {
+                return Ok(Err(Difference {
                     clock: clock.number,
-                    mismatch,
-                })),
-                Err(CheckError::NoMemory(e)) => return Err(e.into()),
+                    mismatch: Mismatch::try_from(error)?,
+                }));
             }
         }
         Ok(Ok(()))

@@ -52,8 +52,8 @@ impl fmt::Display for Changes {
         match &self.before {
             None => {
                 writeln!(f, "{time}\n$dumpvars")?;
-                write_changed(f, FIRST_PORT, &[], ports)?;
-                write_changed(f, FIRST_INSIDE, &[], inside)?;
+                write_all(f, FIRST_PORT, ports)?;
+                write_all(f, FIRST_INSIDE, inside)?;
                 writeln!(f, "$end")
             }
             Some(before) => {
@@ -65,15 +65,22 @@ impl fmt::Display for Changes {
     }
 }
 
-// The signals that are not as before; all where there were none.
+fn write_all<W: fmt::Write>(f: &mut fmt::Formatter<W>, first: u8, now: &[Signal]) -> fmt::Result {
+    for (id, signal) in (first..=LAST).zip(now) {
+        write_signal(f, id, *signal)?;
+    }
+    Ok(())
+}
+
+// The signals that are not as before.
 fn write_changed<W: fmt::Write>(
     f: &mut fmt::Formatter<W>,
     first: u8,
     before: &[Signal],
     now: &[Signal],
 ) -> fmt::Result {
-    for (place, (id, signal)) in (first..=LAST).zip(now).enumerate() {
-        if before.get(place) != Some(signal) {
+    for ((id, signal), before) in (first..=LAST).zip(now).zip(before) {
+        if signal != before {
             write_signal(f, id, *signal)?;
         }
     }

@@ -1,4 +1,8 @@
 // The wires of a waveform: a flag, a word, or a number of some bits.
+ghost use Rattle.std.specs.Prelude.{◌≡◌, Some};
+ghost use Rattle.std.specs.Int.{from_bool};
+ghost use Rattle.waves.specs.declared.wires.Wire.TheVariants.{Flag, Word, Bits};
+
 #[derive(Clone, Copy, PartialEq, Eq)]
 pub enum Wire {
     Flag(&'static str),
@@ -30,21 +34,30 @@ pub struct Signal {
 }
 
 impl Signal {
-    pub fn flag(name: &'static str, up: bool) -> Signal {
+    pub fn flag(name: &'static str, up: bool) -> Signal
+        ensures wire { result.wire ≡ Flag name.entry }
+        ensures value { result.value ≡ Some (from_bool up) }
+    {
         Signal {
             wire: Wire::Flag(name),
             value: Some(u32::from(up)),
         }
     }
 
-    pub fn word(name: &'static str, value: Option<u32>) -> Signal {
+    pub fn word(name: &'static str, value: Option<u32>) -> Signal
+        ensures wire { result.wire ≡ Word name.entry }
+        ensures value { result.value ≡ value }
+    {
         Signal {
             wire: Wire::Word(name),
             value,
         }
     }
 
-    pub fn bits(name: &'static str, width: u32, value: Option<u32>) -> Signal {
+    pub fn bits(name: &'static str, width: u32, value: Option<u32>) -> Signal
+        ensures wire { result.wire ≡ Bits name.entry width }
+        ensures value { result.value ≡ value }
+    {
         Signal {
             wire: Wire::Bits(name, width),
             value,

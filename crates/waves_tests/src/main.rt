@@ -27,11 +27,6 @@ fn session(rt: &HostRuntime, program: &Program) -> Result<Session, Failure> {
     setup.session(rt.alloc())
 }
 
-// Here, since testbench knows no core, and waves no session.
-fn core(session: &Session) -> Result<Core, Failure> {
-    Core::load(session.core()).ok_or(Failure::NoCore)
-}
-
 // The waveforms, until it stops.
 fn show_waves(rt: &HostRuntime, program: &Program) -> Result<(), Failure> {
     let mut session = session(rt, program)?;
@@ -39,12 +34,12 @@ fn show_waves(rt: &HostRuntime, program: &Program) -> Result<(), Failure> {
     let header = Header;
     print!(rt; "{header}")?;
     // As the next clock begins.
-    let mut before = core(&session)?;
+    let mut before = Core::load(session.core()).ok_or(Failure::NoCore)?;
     runner::run(&mut session, CLOCKS, |session, clock| {
         let sample = Sample::new(&before, &clock.inputs, &clock.outputs);
         let changes = dump.clock(clock.number, sample);
         print!(rt; "{changes}")?;
-        before = core(session)?;
+        before = Core::load(session.core()).ok_or(Failure::NoCore)?;
         Ok(())
     })?;
     Ok(())
