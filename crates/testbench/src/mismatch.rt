@@ -1,6 +1,6 @@
 // How a core can differ from the manual.
-ghost use Rattle.std.specs.Prelude.{◌≡◌, Ok};
-ghost use Rattle.testbench.specs.declared.mismatch.CheckError.TheVariants.{Differs};
+ghost use Rattle.std.specs.Prelude.{◌≡◌, MatchResult};
+ghost use Rattle.testbench.specs.declared.mismatch.CheckError.TheVariants.{Differs, NoMemory};
 
 use crate::failure::Failure;
 use crate::lines::Shown;
@@ -78,7 +78,7 @@ pub enum CheckError {
 impl TryFrom<CheckError> for Mismatch {
     type Error = AllocError;
 
-    ghost try_from_gives = { λ e r. (m : _) → e ≡ Differs m → r ≡ Ok m };
+    ghost try_from_gives = { λ e r. MatchResult r (λ m. e ≡ Differs m) (λ a. e ≡ NoMemory a) };
 
     fn try_from(error: CheckError) -> Result<Mismatch, AllocError> {
         match error {
