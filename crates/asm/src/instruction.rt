@@ -52,7 +52,7 @@ impl Located<'_, '_> {
             Mnemonic::Jal => self.jal(),
             Mnemonic::Jalr => self.jalr(),
             Mnemonic::Branch(cond) => {
-                let ([rs1, rs2], offset) = self.jump_operands::<2>()?;
+                let (rs1, rs2, offset) = self.branch_operands()?;
                 branch(cond, rs1, rs2, offset, 2)
             }
             Mnemonic::Load => {
@@ -83,6 +83,12 @@ impl Located<'_, '_> {
     pub(crate) fn jump_operands<const N: usize>(self) -> Result<([Reg; N], u32), Fault> {
         let registers = self.statement.registers::<N>(N + 1)?;
         Ok((registers, self.offset(N)?))
+    }
+
+    // Of a branch: two registers, and how far the target lies from here.
+    pub fn branch_operands(self) -> Result<(Reg, Reg, u32), Fault> {
+        let ([rs1, rs2], offset) = self.jump_operands::<2>()?;
+        Ok((rs1, rs2, offset))
     }
 
     // `r, offset(rs1)`.

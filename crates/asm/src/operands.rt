@@ -1,4 +1,6 @@
 // The operands of a statement, by their places from 0.
+ghost use Rattle.std.specs.Prelude.{◌≡◌, None};
+
 use crate::cursor::Cursor;
 use crate::error::{AsmError, Fault, Problem};
 use crate::names::{ZERO, register};
@@ -8,9 +10,18 @@ use isa::reg::Reg;
 use std::cmp::Ordering;
 
 impl<'a> Statement<'a> {
+    // The text of the operand at a place, or nothing if it is missing; the name where there is no place.
+    pub fn part(self, place: Option<usize>) -> &'a str
+        ensures { place ≡ None → result.now ≡ self.entry.name.now }
+    {
+        let Some(place) = place else {
+            return self.name;
+        };
+        self.text(place)
+    }
+
     pub fn blame(self, fault: Fault, line: usize) -> AsmError<'a> {
-        let text = fault.place.map_or(self.name, |place| self.text(place));
-        fault.problem.at(line, text)
+        fault.problem.at(line, self.part(fault.place))
     }
 
     pub fn count(self) -> usize {
@@ -52,6 +63,15 @@ impl<'a> Statement<'a> {
         requires { F.IsAlwaysCallable f }
     {
         read(place, self.text(place), f)
+    }
+
+    // An operand by its place, from 0.
+    pub fn operand(self, place: usize) -> Result<&'a str, Fault> {
+        let text = self.text(place);
+        if text.is_empty() {
+            return Err(Fault::name(Problem::MissingOperand));
+        }
+        Ok(text)
     }
 
     pub fn register(self, place: usize) -> Result<Reg, Fault> {

@@ -1,5 +1,5 @@
 // Names that stand for other instructions.
-ghost use Rattle.std.specs.Prelude.{◌≡◌, IfOk, IfErr, Some, None};
+ghost use Rattle.std.specs.Prelude.{◌≡◌, ◌≤◌, IfOk, IfErr, Some, None};
 ghost use Rattle.isa.specs.declared.instr.AluOp.TheVariants.{Add};
 ghost use Rattle.isa.specs.declared.instr.Instr.TheVariants.{AluImm};
 ghost use Rattle.isa.specs.Decoding.{decodes};
@@ -76,17 +76,11 @@ impl FromStr for Pseudo {
 }
 
 impl Pseudo {
-    // Whether it takes both halves of a constant: `la` does, and `li` unless one is enough and it is a number, known before any label.
+    // Whether it takes both halves of a constant: `la` does, and `li` where it takes two words.
     pub(crate) fn takes_both(self, s: Statement) -> Result<bool, Fault> {
         match self {
             Pseudo::La => Ok(true),
-            Pseudo::Li => s.read(1, |text| {
-                if !is_number(text) {
-                    return Ok(true);
-                }
-                let n = number(text)?;
-                Ok(lower(n) != 0 && lower(n) != n)
-            }),
+            Pseudo::Li => Ok(constant_size(s)? == 2),
             _ => Ok(false),
         }
     }
@@ -108,6 +102,18 @@ impl Words {
             second: None,
         }
     }
+}
+
+// How many words `li` takes: one if half of the value is enough, and it is a number, known before any label.
+pub fn constant_size(s: Statement) -> Result<usize, Fault>
+    ensures { IfOk result (λ n. (1 ≤ n) × (n ≤ 2)) }
+{
+    let text = s.operand(1)?;
+    if !is_number(text) {
+        return Ok(2);
+    }
+    let n = number(text).map_err(|problem| Fault::operand(1, problem))?;
+    Ok(if lower(n) == 0 || lower(n) == n { 1 } else { 2 })
 }
 
 // Loads a constant in one word, or in two if `split`.
@@ -167,7 +173,7 @@ impl Located<'_, '_> {
                 branch(cond, ZERO, rs, offset, 1)?
             }
             Pseudo::Swapped(cond) => {
-                let ([rs1, rs2], offset) = self.jump_operands::<2>()?;
+                let (rs1, rs2, offset) = self.branch_operands()?;
                 branch(cond, rs2, rs1, offset, 2)?
             }
         };

@@ -4,7 +4,7 @@
 mod fetch;
 mod lsu;
 pub mod state;
-mod stores;
+pub mod stores;
 mod words;
 mod work;
 

@@ -1,7 +1,6 @@
 // What is asked and not yet answered.
-ghost use Rattle.std.specs.Prelude.{◌≡◌, ℕ, ◌≤◌, [], ◌∷◌, ◌++◌, MatchOption, OnOk, Some, nat_le};
-ghost use Rattle.std.specs.VecDeque.{deque_len, deque_items};
-ghost use Rattle.sim.specs.Worlds.{Adds};
+ghost use Rattle.std.specs.Prelude.{◌≡◌, ℕ, ◌≤◌, ◌↔◌, [], ◌∷◌, ◌++◌, MatchOption, OnOk, IsErr, IfErr, nat_le};
+ghost use Rattle.std.specs.VecDeque.{deque_len};
 
 use crate::error::WorldError;
 use std::alloc::{AllocFailed, Global};
@@ -44,14 +43,14 @@ impl<T: Copy> Queue<T> {
         self.items.push_back(Open { asked, due })
     }
 
-    // The same, or `full` where no more may be open.
-    pub(crate) fn ask(&mut self, asked: T, due: u64, full: WorldError) -> Result<(), WorldError>
-        ensures { OnOk result (Adds (deque_items self.old.items) (deque_items self.new.items) (Some asked)) }
+    // Refuses with `full` where no more may be open.
+    pub(crate) fn room(&self, full: WorldError) -> Result<(), WorldError>
+        ensures refused { IsErr result ↔ (4 ≤ deque_len self.now.items) }
+        ensures error { IfErr result (λ e. e ≡ full) }
     {
         if self.is_full() {
             return Err(full);
         }
-        self.push(asked, due)?;
         Ok(())
     }
 

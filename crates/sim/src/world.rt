@@ -91,18 +91,19 @@ impl World {
         }
     }
 
-    // Takes what is asked in this clock, which then is over.
+    // Takes what is asked in this clock, which then is over. What is refused draws no random number.
     pub fn take(&mut self, outs: &Outputs) -> Result<(), WorldError>
         ensures { OnOk result (Takes self.old self.new outs.now) }
     {
         if let Some(address) = outs.want {
+            self.wants.room(WorldError::TooManyWants)?;
             let due = self.due();
-            self.wants.ask(address, due, WorldError::TooManyWants)?;
+            self.wants.push(address, due)?;
         }
         if let Some(request) = outs.request {
+            self.requests.room(WorldError::TooManyRequests)?;
             let due = self.due();
-            self.requests
-                .ask(request, due, WorldError::TooManyRequests)?;
+            self.requests.push(request, due)?;
         }
         self.clock = self.clock.saturating_add(1);
         Ok(())

@@ -38,9 +38,9 @@ impl Open {
 pub struct Checker {
     code: Memory,
     machine: Machine,
-    // Effects of what is done, to be asked yet; or the effect asked, of what is to be done next.
+    // Effects of what is done, to be asked yet; effects asked, of what is to be done yet. One of the two is empty.
     owed: VecDeque<Owed>,
-    early: Option<Effect>,
+    early: VecDeque<Effect>,
     wants: Open,
     requests: Open,
     // In so many clocks an instruction is done, and what is owed is asked.
@@ -56,7 +56,7 @@ impl Checker {
             code,
             machine,
             owed: VecDeque::new(heap),
-            early: None,
+            early: VecDeque::new(heap),
             wants: Open::default(),
             requests: Open::default(),
             patience: 64 + 16 * u64::from(most),
@@ -121,7 +121,7 @@ impl Checker {
 
     // An instruction that is done has an effect: it was asked already, or is owed.
     fn check_effect(&mut self, effect: Effect) -> Result<(), CheckError> {
-        if let Some(core) = self.early.take() {
+        if let Some(core) = self.early.pop_front() {
             return Ok(same(core, effect)?);
         }
         let clock = self.clock;
@@ -129,26 +129,27 @@ impl Checker {
         Ok(())
     }
 
-    // An effect is asked: it is the oldest that is owed, or early. Only one may be early.
-    fn check_asked(&mut self, core: Effect) -> Result<(), Mismatch> {
+    // An effect is asked: it is the oldest that is owed, or early.
+    fn check_asked(&mut self, core: Effect) -> Result<(), CheckError> {
         if let Some(owed) = self.owed.pop_front() {
-            return same(core, owed.effect);
+            return Ok(same(core, owed.effect)?);
         }
-        if self.early.is_some() {
-            return Err(Mismatch::AskedEarly { core });
-        }
-        self.early = Some(core);
+        self.early.push_back(core)?;
         Ok(())
     }
 
-    // Of what is not done only the next instruction's effect is asked; and at most eight are owed.
+    // Of what is not done only the next instruction's effect is asked; and at most eight are owed. A second early one is kept,
+    // so that it is refused in the clocks after this one too.
     fn check_order(&self) -> Result<(), Mismatch> {
         if self.owed.len() > 8 {
             return Err(Mismatch::Behind);
         }
-        let Some(core) = self.early else {
+        let Some(core) = self.early.back().copied() else {
             return Ok(());
         };
+        if self.early.len() > 1 {
+            return Err(Mismatch::AskedEarly { core });
+        }
         let next = next_effect(&self.machine, &self.code);
         same(core, next.ok_or(Mismatch::AskedEarly { core })?)
     }

@@ -14,8 +14,9 @@ pub fn trace(
     from: u64,
     limit: u64,
 ) -> Result<Summary, Failure> {
+    let begin = session.world.clock;
     run(session, limit, |session, clock| {
-        if clock.number >= from {
+        if clock.number.saturating_sub(begin) >= from {
             show(rt, &session.world.code, clock)?;
         }
         Ok(())

@@ -11,7 +11,21 @@ pub struct Sample {
     pub inside: [Signal; 11],
 }
 
+// What they carry alone, each in its place.
+#[derive(Clone, Copy)]
+pub(crate) struct Carried {
+    pub(crate) ports: [Option<u32>; 25],
+    pub(crate) inside: [Option<u32>; 11],
+}
+
 impl Sample {
+    pub(crate) fn carried(&self) -> Carried {
+        Carried {
+            ports: array::from_fn(|place| self.ports[place].value),
+            inside: array::from_fn(|place| self.inside[place].value),
+        }
+    }
+
     // The core as the clock begins, what it is given and what it shows.
     pub fn new(core: &Core, inputs: &Inputs, outputs: &Outputs) -> Sample {
         Sample {

@@ -1,5 +1,5 @@
 // A value change dump: a header, then for each clock the wires that change.
-use crate::sample::Sample;
+use crate::sample::{Carried, Sample};
 use crate::wires::{Signal, Wire};
 use std::fmt;
 
@@ -41,7 +41,7 @@ fn declare<W: fmt::Write>(f: &mut fmt::Formatter<W>, first: u8, signals: &[Signa
 #[derive(Clone, Copy)]
 pub struct Changes {
     clock: u64,
-    before: Option<Sample>,
+    before: Option<Carried>,
     now: Sample,
 }
 
@@ -72,15 +72,15 @@ fn write_all<W: fmt::Write>(f: &mut fmt::Formatter<W>, first: u8, now: &[Signal]
     Ok(())
 }
 
-// The signals that are not as before.
+// The signals that do not carry what their wires carried before.
 fn write_changed<W: fmt::Write>(
     f: &mut fmt::Formatter<W>,
     first: u8,
-    before: &[Signal],
+    before: &[Option<u32>],
     now: &[Signal],
 ) -> fmt::Result {
     for ((id, signal), before) in (first..=LAST).zip(now).zip(before) {
-        if signal != before {
+        if signal.value != *before {
             write_signal(f, id, *signal)?;
         }
     }
@@ -109,10 +109,10 @@ impl fmt::Display for Time {
     }
 }
 
-// A dump under way: the last clock.
+// A dump under way: what the wires carried in the last clock, as their names stay.
 #[derive(Clone, Copy)]
 pub struct Dump {
-    last: Option<Sample>,
+    last: Option<Carried>,
 }
 
 impl Dump {
@@ -122,7 +122,7 @@ impl Dump {
     }
 
     pub fn clock(&mut self, clock: u64, now: Sample) -> Changes {
-        let before = self.last.replace(now);
+        let before = self.last.replace(now.carried());
         Changes { clock, before, now }
     }
 }

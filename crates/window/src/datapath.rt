@@ -5,7 +5,7 @@ ghost use Rattle.window.specs.Datapaths.{datapath_start, named, operand_for, lef
 
 use crate::entry::{Entry, Number, Source, Tag};
 use crate::known::{left_register, right_register, work};
-use crate::queues::{Fetches, Requests};
+use crate::queues::{Fetches, Numbered, Requests};
 use crate::ring::{Window, operand, source};
 use crate::stores::StoreBuffer;
 use isa::devices::DEVICES;
@@ -201,10 +201,8 @@ impl Datapath {
         ensures { self.new ≡ flushed self.old n }
     {
         self.window.cut(n);
-        self.requests = self.requests.map(|tag| tag.kept(n));
-        self.fetches = self
-            .fetches
-            .map(|fetch| fetch.and_then(|number| number.kept(n)));
+        self.requests.flushed(n);
+        self.fetches.flushed(n);
     }
 
     // The n-th instruction, which is e, is predicted to be followed by `next`: what is younger is flushed.

@@ -1,6 +1,7 @@
 // What the open requests and the wanted words of code are for, oldest first: at most four of each.
-ghost use Rattle.std.specs.Prelude.{◌≡◌, Some};
+ghost use Rattle.std.specs.Prelude.{◌≡◌, ℕ, Option, Some};
 ghost use Rattle.window.specs.Machine.{popped, kept, retag, renumber};
+ghost use Rattle.window.specs.Queues.{requests_by, fetches_by};
 
 use crate::entry::{Number, Tag};
 use rings::queue::Queue;
@@ -42,5 +43,43 @@ impl Tag {
             Tag::Load(number) => number.kept(n).map_or(Tag::Stale, Tag::Load),
             other => other,
         }
+    }
+}
+
+// A queue that names instructions at work by their numbers.
+pub trait Numbered: Sized {
+    // The same with each number changed, or gone.
+    ghost by: { (ℕ → Option ℕ) → Self → Self };
+
+    // The oldest instruction is retired.
+    fn retired(&mut self)
+        ensures { self.new ≡ by popped self.old };
+
+    // The instructions from n on are flushed.
+    fn flushed(&mut self, n: u32)
+        ensures { self.new ≡ by (kept n) self.old };
+}
+
+impl Numbered for Requests {
+    ghost by = { requests_by };
+
+    fn retired(&mut self) {
+        *self = self.map(|tag| tag.popped());
+    }
+
+    fn flushed(&mut self, n: u32) {
+        *self = self.map(|tag| tag.kept(n));
+    }
+}
+
+impl Numbered for Fetches {
+    ghost by = { fetches_by };
+
+    fn retired(&mut self) {
+        *self = self.map(|fetch| fetch.and_then(Number::popped));
+    }
+
+    fn flushed(&mut self, n: u32) {
+        *self = self.map(|fetch| fetch.and_then(|number| number.kept(n)));
     }
 }

@@ -3,7 +3,8 @@ ghost use Rattle.std.specs.Prelude.{◌≡◌};
 ghost use Rattle.window.specs.Retiring.{numbers_popped, moved_on, write_done, plain_done, written, load_retired, load_done, store_retired, store_done, outcome_retired, outcome_done, retired, done, drained, drain_request};
 
 use crate::datapath::Datapath;
-use crate::entry::{Entry, Number, Tag};
+use crate::entry::{Entry, Tag};
+use crate::queues::Numbered;
 use isa::execute::Outcome;
 use isa::reg::Reg;
 use pins::held::{Reading, Store};
@@ -14,8 +15,8 @@ impl Datapath {
     fn pop_numbers(&mut self)
         ensures { self.new ≡ numbers_popped self.old }
     {
-        self.requests = self.requests.map(|tag| tag.popped());
-        self.fetches = self.fetches.map(|fetch| fetch.and_then(Number::popped));
+        self.requests.retired();
+        self.fetches.retired();
     }
 
     // It goes on at `next`: after a right prediction the younger ones stay, after a wrong one they are flushed.

@@ -1,0 +1,8 @@
+use Rattle.std.proofs.Common.{rules, None}
+use Rattle.window.specs.Machine.{popped, renumber}
+use Rattle.window.proofs.QueueMap.{map_is}
+use Rattle.window.proofs.queues.FetchesNumbered.retired.Goals as goal
+
+pub returns : goal.returns
+returns c =
+    map_is _ _ (renumber popped) None (λ x y q e. search rules) c.args.self.now c.map.result c.map.ensures.places c.map.ensures.count c.map.ensures.items
