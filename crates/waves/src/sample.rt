@@ -1,4 +1,6 @@
 // What the wires carry in one clock.
+ghost use Rattle.std.specs.Prelude.{◌≡◌, length, map};
+
 use crate::wires::Signal;
 use first::state::Core;
 use pins::held::Reading;
@@ -19,7 +21,10 @@ pub(crate) struct Carried {
 }
 
 impl Sample {
-    pub(crate) fn carried(&self) -> Carried {
+    pub(crate) fn carried(&self) -> Carried
+        ensures ports { length self.now.ports ≡ 25 → result.ports ≡ map (λ s. s.value) self.now.ports }
+        ensures inside { length self.now.inside ≡ 11 → result.inside ≡ map (λ s. s.value) self.now.inside }
+    {
         Carried {
             ports: array::from_fn(|place| self.ports[place].value),
             inside: array::from_fn(|place| self.inside[place].value),
