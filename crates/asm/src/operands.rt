@@ -1,5 +1,6 @@
 // The operands of a statement, by their places from 0.
-ghost use Rattle.std.specs.Prelude.{◌≡◌, None};
+ghost use Rattle.std.specs.Prelude.{◌≡◌, ◌↔◌, [], IsErr, IfErr, None};
+ghost use Rattle.asm.specs.declared.error.Problem.TheVariants.{MissingOperand};
 
 use crate::cursor::Cursor;
 use crate::error::{AsmError, Fault, Problem};
@@ -66,12 +67,10 @@ impl<'a> Statement<'a> {
     }
 
     // An operand by its place, from 0.
-    pub fn operand(self, place: usize) -> Result<&'a str, Fault> {
-        let text = self.text(place);
-        if text.is_empty() {
-            return Err(Fault::name(Problem::MissingOperand));
-        }
-        Ok(text)
+    pub fn operand(self, place: usize) -> Result<&'a str, Fault>
+        ensures { IfErr result (λ f. (f.problem ≡ MissingOperand) × (f.place ≡ None)) }
+    {
+        present(self.text(place))
     }
 
     pub fn register(self, place: usize) -> Result<Reg, Fault> {
@@ -129,6 +128,17 @@ impl Located<'_, '_> {
     }
 }
 
+// The text of an operand, which may not be missing.
+fn present<'a>(text: &'a str) -> Result<&'a str, Fault>
+    ensures missing { IsErr result ↔ (text.now ≡ []) }
+    ensures error { IfErr result (λ f. (f.problem ≡ MissingOperand) × (f.place ≡ None)) }
+{
+    if text.is_empty() {
+        return Err(Fault::name(Problem::MissingOperand));
+    }
+    Ok(text)
+}
+
 // What the operand at `place` is read as, by its text.
 fn read<'a, T, F: FnOnce(&'a str) -> Result<T, Problem>>(
     place: usize,
@@ -137,10 +147,7 @@ fn read<'a, T, F: FnOnce(&'a str) -> Result<T, Problem>>(
 ) -> Result<T, Fault>
     requires { F.IsAlwaysCallable f }
 {
-    if text.is_empty() {
-        return Err(Fault::name(Problem::MissingOperand));
-    }
-    f(text).map_err(|problem| Fault::operand(place, problem))
+    f(present(text)?).map_err(|problem| Fault::operand(place, problem))
 }
 
 // `offset(register)`, where no offset is 0.

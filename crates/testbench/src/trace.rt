@@ -14,11 +14,13 @@ pub fn trace(
     from: u64,
     limit: u64,
 ) -> Result<Summary, Failure> {
-    let begin = session.world.clock;
+    // Counted from here, and not by the clock's number: the session may have run before.
+    let mut number = 0u64;
     run(session, limit, |session, clock| {
-        if clock.number.saturating_sub(begin) >= from {
+        if number >= from {
             show(rt, &session.world.code, clock)?;
         }
+        number = number.saturating_add(1);
         Ok(())
     })
 }
