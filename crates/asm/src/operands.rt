@@ -1,5 +1,5 @@
 // The operands of a statement, by their places from 0.
-ghost use Rattle.std.specs.Prelude.{◌≡◌, ◌↔◌, [], IsErr, IfErr, None};
+ghost use Rattle.std.specs.Prelude.{◌≡◌, ◌↔◌, [], IsErr, IfOk, IfErr, None};
 ghost use Rattle.asm.specs.declared.error.Problem.TheVariants.{MissingOperand};
 
 use crate::cursor::Cursor;
@@ -68,7 +68,8 @@ impl<'a> Statement<'a> {
 
     // An operand by its place, from 0.
     pub fn operand(self, place: usize) -> Result<&'a str, Fault>
-        ensures { IfErr result (λ f. (f.problem ≡ MissingOperand) × (f.place ≡ None)) }
+        ensures there { IfOk result (λ t. t.now ≡ [] → ⊥) }
+        ensures error { IfErr result (λ f. (f.problem ≡ MissingOperand) × (f.place ≡ None)) }
     {
         present(self.text(place))
     }
@@ -131,6 +132,7 @@ impl Located<'_, '_> {
 // The text of an operand, which may not be missing.
 fn present<'a>(text: &'a str) -> Result<&'a str, Fault>
     ensures missing { IsErr result ↔ (text.now ≡ []) }
+    ensures same { IfOk result (λ t. t.now ≡ text.now) }
     ensures error { IfErr result (λ f. (f.problem ≡ MissingOperand) × (f.place ≡ None)) }
 {
     if text.is_empty() {
